@@ -9,6 +9,8 @@ pub mod Land
 pub mod State
 pub mod Grants
 pub mod Steps
+pub mod Arrive
+pub mod Fits
 pub mod Opening
 pub mod Entries
 pub mod Belongs
