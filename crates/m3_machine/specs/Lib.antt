@@ -1,0 +1,11 @@
+pub mod Arrive
+pub mod Parts
+pub mod Naming
+pub mod Tile
+pub mod Kernel
+pub mod Memory
+pub mod Machine
+pub mod At
+pub mod Sound
+pub mod Moving
+pub mod Rows

@@ -1,0 +1,32 @@
+-- The machine's step as a move of parts over links: the words of the merge theorem.
+use Rattle.std.specs.Prelude.{◌≡◌, ℕ, ◌+◌, ◌*◌, [], Option, Some, None, slice_index_or}
+use Rattle.m3_base.specs.declared.event.Event.{Event}
+use Rattle.m3_base.specs.declared.event.Entry.{Entry}
+use Rattle.m3_merge.specs.Parts.{Item, Moves}
+use Rattle.m3_merge.specs.Parts as merge
+use Rattle.m3_machine.specs.Parts.{Site, Parcel}
+use Rattle.m3_machine.specs.Machine.{Machine, Part, part_at, part_step, tile_for_event}
+
+abbrev pub parcel_of : Option (ℕ × Parcel) → Option Parcel
+parcel_of None = None
+parcel_of (Some p) = Some p.1
+
+-- a take takes from the link that it names, or finds it empty; no other event takes
+abbrev pub TakesFrom : Event → Option (ℕ × Parcel) → Type 0
+TakesFrom (Event.Take to from) (Some p) = p.0 ≡ from
+TakesFrom (Event.Take to from) None = Unit {0}
+TakesFrom event (Some p) = ⊥
+TakesFrom event None = Unit {0}
+
+-- one entry of a part: its local step, whose outcome the entry has
+pub record Steps (h : Site) (t : ℕ) (before : Part) (x : Item Entry Parcel) (after : Part) : Type 0 where
+  pub tile : tile_for_event h x.entry.event ≡ t
+  pub from : TakesFrom x.entry.event x.took
+  pub step : part_step h before x.entry.event x.entry.outcome.made (parcel_of x.took) ≡ Some (record { outcome = x.entry.outcome; part = after; out = x.out })
+
+-- a machine as the merge theorem has it
+abbrev pub parts_of : Machine → merge.Machine Part Parcel
+parts_of m = record { parts = λ t. part_at t m; links = λ from to. slice_index_or m.links (16 * from + to) [] }
+
+abbrev pub MovesBy : Site → Machine → Item Entry Parcel → Machine → Type 0
+MovesBy h m x n = Moves (Steps h) (parts_of m) x (parts_of n)

@@ -1,0 +1,183 @@
+-- Worked rows, of the machine.
+use Rattle.std.specs.Prelude.{◌≡◌, ℕ, zero, suc, List, [], ◌∷◌, ◌++◌, Option, Some, None}
+use Rattle.std.proofs.Common.{refl}
+use Rattle.m3_base.specs.declared.event.Outcome.{Outcome}
+use Rattle.m3_base.specs.declared.event.Event.{Event}
+use Rattle.m3_base.specs.declared.event.Entry.{Entry}
+use Rattle.m3_base.specs.declared.event.Said.{Said}
+use Rattle.m3_base.specs.declared.setup_line.SetupLine.{SetupLine}
+use Rattle.m3_base.specs.declared.command.Command.{Command}
+use Rattle.m3_base.specs.declared.command.Answer.{Answer}
+use Rattle.m3_base.specs.declared.order.Order.{Order}
+use Rattle.m3_base.specs.Opening.{opening}
+use Rattle.m3_base.specs.Places.{Places, pstep, opening_places}
+use Rattle.m3_base.specs.Places as places
+use Rattle.m3_base.specs.declared.event.Made.{Made}
+use Rattle.m3_base.specs.Driver.{next_event}
+use Rattle.m3_base.specs.AutoRows.{Programs, made_by, programs_after, setup_20, programs_20}
+use Rattle.m3_base.specs.AutoRows as driven
+use Rattle.m3_base.specs.PlacedRows.{expected, setup_1, row_1, setup_5, row_5, setup_6, row_6, setup_7, row_7, setup_8, row_8, setup_9, row_9, setup_10, row_10, setup_11, row_11, setup_12, row_12, setup_13, row_13, setup_14, row_14, setup_15, row_15, setup_16, row_16, setup_17, row_17, setup_18, row_18}
+use Rattle.m3_base.specs.declared.order.GrantLine.{GrantLine}
+use Rattle.m3_base.specs.declared.packet.Perm.{Perm}
+use Rattle.m3_base.specs.declared.command.Reply.{Reply}
+use Rattle.m3_machine.specs.Parts.{Site, Stay, Seen, Got}
+use Rattle.m3_machine.specs.Tile.{stay_of}
+use Rattle.m3_machine.specs.Machine.{Machine, Did, tile_at, mstep, site_of, opened_machine}
+use Rattle.m3_machine.specs.At.{at, places_of}
+
+abbrev pub machine_of : Machine → Option Did → Machine
+machine_of m None = m
+machine_of m (Some d) = d.machine
+
+abbrev pub outcome_of : Option Did → Option Outcome
+outcome_of None = None
+outcome_of (Some d) = Some d.outcome
+
+-- what the machine does with these events
+abbrev pub outs : Site → Machine → List Entry → List (Option Outcome)
+outs h m [] = []
+outs h m (e ∷ es) = let d = mstep h m e.event e.outcome.made in outcome_of d ∷ outs h (machine_of m d) es
+
+abbrev pub said_by : Option places.Did → Option Outcome
+said_by None = None
+said_by (Some d) = Some (record { made = None; said = d.said; restore = d.restore })
+
+-- what the ideal machine and the places say of these events, each from where the machine stands
+abbrev pub outs_at : Site → Machine → List Entry → List (Option Outcome)
+outs_at h m [] = []
+outs_at h m (e ∷ es) =
+    said_by (pstep (at m) (places_of h m) e.event e.outcome.made) ∷ outs_at h (machine_of m (mstep h m e.event e.outcome.made)) es
+
+-- a row: the machine opens as the ideal machine and the places do, says what the row says, and they say the same from each machine on the way
+pub record Row (memory : ℕ) (programs : List ℕ) (lines : List SetupLine) (entries : List Entry) : Type 0 where
+  pub opens : at (opened_machine memory programs lines) ≡ opening memory lines
+  pub stands : places_of (site_of memory programs lines) (opened_machine memory programs lines) ≡ opening_places programs lines
+  pub says : outs (site_of memory programs lines) (opened_machine memory programs lines) entries ≡ expected entries
+  pub says_at : outs_at (site_of memory programs lines) (opened_machine memory programs lines) entries ≡ expected entries
+
+pub row_6_machine : Row 16 [] setup_6 row_6
+row_6_machine = record { opens = refl; stands = refl; says = refl; says_at = refl }
+
+pub row_1_machine : Row 16 [] setup_1 row_1
+row_1_machine = record { opens = refl; stands = refl; says = refl; says_at = refl }
+
+pub row_5_machine : Row 16 [] setup_5 row_5
+row_5_machine = record { opens = refl; stands = refl; says = refl; says_at = refl }
+
+pub row_7_machine : Row 16 [] setup_7 row_7
+row_7_machine = record { opens = refl; stands = refl; says = refl; says_at = refl }
+
+pub row_8_machine : Row 16 [] setup_8 row_8
+row_8_machine = record { opens = refl; stands = refl; says = refl; says_at = refl }
+
+pub row_9_machine : Row 16 [] setup_9 row_9
+row_9_machine = record { opens = refl; stands = refl; says = refl; says_at = refl }
+
+pub row_10_machine : Row 16 [] setup_10 row_10
+row_10_machine = record { opens = refl; stands = refl; says = refl; says_at = refl }
+
+pub row_11_machine : Row 16 [] setup_11 row_11
+row_11_machine = record { opens = refl; stands = refl; says = refl; says_at = refl }
+
+pub row_12_machine : Row 16 [] setup_12 row_12
+row_12_machine = record { opens = refl; stands = refl; says = refl; says_at = refl }
+
+pub row_13_machine : Row 16 [] setup_13 row_13
+row_13_machine = record { opens = refl; stands = refl; says = refl; says_at = refl }
+
+pub row_14_machine : Row 16 [] setup_14 row_14
+row_14_machine = record { opens = refl; stands = refl; says = refl; says_at = refl }
+
+pub row_15_machine : Row 16 [] setup_15 row_15
+row_15_machine = record { opens = refl; stands = refl; says = refl; says_at = refl }
+
+pub row_16_machine : Row 16 [] setup_16 row_16
+row_16_machine = record { opens = refl; stands = refl; says = refl; says_at = refl }
+
+pub row_17_machine : Row 16 [] setup_17 row_17
+row_17_machine = record { opens = refl; stands = refl; says = refl; says_at = refl }
+
+pub row_18_machine : Row 16 [] setup_18 row_18
+row_18_machine = record { opens = refl; stands = refl; says = refl; says_at = refl }
+
+-- ---- row 20, by the driver
+
+pub record Driving : Type 0 where
+  pub machine : Machine
+  pub programs : Programs
+  pub entries : List Entry
+
+abbrev pub advances : Site → Driving → Event → Option Made → Option Did → Driving
+advances h r e m None = r
+advances h r e m (Some d) =
+    record {
+      machine = d.machine;
+      programs = programs_after (places_of h r.machine) r.programs e m;
+      entries = r.entries ++ record { event = e; outcome = d.outcome } ∷ [];
+    }
+
+abbrev pub drives : Site → Driving → Option Event → Driving
+drives h r None = r
+drives h r (Some e) = let m = made_by (places_of h r.machine) r.programs e in advances h r e m (mstep h r.machine e m)
+
+abbrev pub auto : Site → ℕ → Driving → Driving
+auto h zero r = r
+auto h (suc n) r = auto h n (drives h r (next_event (at r.machine) (places_of h r.machine) []))
+
+abbrev pub row_20 : List Entry
+row_20 = (
+    driven.entry (Event.Turn 0) (Some (Made.Command (Command.Send 0 (42 ∷ []) None))) (Said.Flying (driven.id 0 1)) None
+    ∷ driven.entry (Event.Take 2 2) None (Said.Bounced (driven.id 0 1)) None
+    ∷ driven.entry (Event.Take 0 2) None (Said.Held (driven.id 0 1) 1) None
+    ∷ driven.entry (Event.Tend 1) None (Said.Landed (driven.id 0 1)) None
+    ∷ driven.entry (Event.Take 2 0) None (Said.Answered (driven.id 0 1) Answer.Sent None) None
+    ∷ driven.entry (Event.Turn 0) (Some Made.End) Said.Ended None
+    ∷ driven.entry (Event.Take 0 2) None (Said.Yielded 0) None
+    ∷ driven.entry (Event.Order (Order.Switch 2 1)) None (Said.Save 0) None
+    ∷ driven.entry (Event.Take 2 0) None (Said.Saving 0) None
+    ∷ driven.entry (Event.Take 0 2) None (Said.Saved 0) (Some 1)
+    ∷ driven.entry (Event.Take 2 0) None (Said.Current 1) None
+    ∷ driven.entry (Event.Turn 1) (Some (Made.Await 0)) Said.Awake None
+    ∷ driven.entry (Event.Turn 1) (Some (Made.Command (Command.Fetch 0))) (Said.Message 0 0 5 (42 ∷ [])) None
+    ∷ driven.entry (Event.Turn 1) (Some Made.End) Said.Ended None
+    ∷ driven.entry (Event.Take 0 2) None (Said.Yielded 1) None
+    ∷ [])
+
+pub row_20_machine : (auto (site_of 64 (0 ∷ 1 ∷ []) setup_20) 20 (record { machine = opened_machine 64 (0 ∷ 1 ∷ []) setup_20; programs = programs_20; entries = [] })).entries ≡ row_20
+row_20_machine = refl
+
+-- ---- an answer that the kernel applied while its activity was away is seen by its program
+
+abbrev pub setup_away : List SetupLine
+setup_away = SetupLine.Act 0 2 ∷ SetupLine.Act 1 2 ∷ SetupLine.Grant (GrantLine.Range 0 0 0 16 Perm.Rw) ∷ []
+
+abbrev pub row_away : List Entry
+row_away =
+    driven.entry (Event.Turn 0) (Some (Made.Command (Command.Read 0 0 2))) (Said.Flying (driven.id 0 1)) None
+    ∷ driven.entry (Event.Order (Order.Switch 2 1)) None (Said.Save 0) None
+    ∷ driven.entry (Event.Take 2 0) None (Said.Saving 0) None
+    ∷ driven.entry (Event.Take 0 2) None (Said.Saved 0) (Some 1)
+    ∷ driven.entry (Event.Take 1 2) None (Said.Landed (driven.id 0 1)) None
+    ∷ driven.entry (Event.Take 2 1) None (Said.Bounced (driven.id 0 1)) None
+    ∷ driven.entry (Event.Take 0 2) None (Said.Held (driven.id 0 1) 0) None
+    ∷ driven.entry (Event.Tend 0) None (Said.Answered (driven.id 0 1) (Answer.Bytes (0 ∷ 0 ∷ [])) None) None
+    ∷ driven.entry (Event.Take 2 0) None (Said.Current 1) None
+    ∷ driven.entry (Event.Order (Order.Switch 2 0)) None (Said.Save 1) None
+    ∷ driven.entry (Event.Take 2 0) None (Said.Saving 1) None
+    ∷ driven.entry (Event.Take 0 2) None (Said.Saved 1) (Some 0)
+    ∷ driven.entry (Event.Take 2 0) None (Said.Current 0) None
+    ∷ []
+
+abbrev pub last_machine : Site → Machine → List Entry → Machine
+last_machine h m [] = m
+last_machine h m (e ∷ es) = last_machine h (machine_of m (mstep h m e.event e.outcome.made)) es
+
+abbrev pub seen_in : Option Stay → Option Seen
+seen_in None = None
+seen_in (Some y) = Some y.seen
+
+pub row_away_machine : outs (site_of 16 (0 ∷ []) setup_away) (opened_machine 16 (0 ∷ []) setup_away) row_away ≡ expected row_away
+row_away_machine = refl
+
+pub row_away_seen : seen_in (stay_of 0 (tile_at 2 (last_machine (site_of 16 (0 ∷ []) setup_away) (opened_machine 16 (0 ∷ []) setup_away) row_away))) ≡ Some (Got (Reply.Bytes (0 ∷ 0 ∷ [])))
+row_away_seen = refl

@@ -1,0 +1,2 @@
+//! The machine: parts that share nothing, and links between them.
+#![tactic(auto)]
