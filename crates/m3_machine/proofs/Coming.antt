@@ -16,7 +16,7 @@ use Rattle.m3_base.specs.State.{State, context_of, put_context}
 use Rattle.m3_base.specs.Steps.{Word, Credits, Discards, Installs, irun, on_from, land_in, message_in, credit_in, install_in, landing_word, number_of, Answers, Frees, answered_in, answer_in, settle_in, then_say}
 use Rattle.m3_base.specs.Entries.{said_of}
 use Rattle.m3_base.specs.Places.{Came, came, came_by, closes, words_in, landing_step, said_or_nothing, still}
-use Rattle.m3_machine.specs.Arrive.{landed_said}
+use Rattle.m3_base.specs.Arrive.{landed_said}
 
 -- one step alone, which frees no endpoint
 pub came_one : (s : State) (id : FlightId) (first : Step) (w : Word) (n : State)

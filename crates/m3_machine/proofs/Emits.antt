@@ -6,7 +6,7 @@ use Rattle.m3_base.specs.declared.command.Answer.{Answer}
 use Rattle.m3_base.specs.declared.packet.Packet.{Packet}
 use Rattle.m3_base.specs.Context.{Context, Flying, endpoint, with_endpoint}
 use Rattle.m3_base.specs.Land.{has_live, closed_at, flies_at, flying_at}
-use Rattle.m3_machine.specs.Arrive.{Arrived, arrive, answer_arrives, close_arrives}
+use Rattle.m3_base.specs.Arrive.{Arrived, arrive, answer_arrives, close_arrives}
 
 abbrev pub OneEmit : Option Arrived → Type 0
 OneEmit None = Unit {0}

@@ -15,7 +15,8 @@ use Rattle.m3_base.specs.Context.{Context}
 use Rattle.m3_base.specs.State.{Grant, Done, is_done, same_act, grant_in, holder, holder_ep, parent_in, parent_of, undone}
 use Rattle.m3_base.specs.Grants.{form, make_refusal, new_grant, revoke_refusal, revoked, change_grant}
 use Rattle.m3_base.specs.Places.{target, joins, least_closing}
-use Rattle.m3_machine.specs.Arrive.{Arrived, arrive_fit}
+use Rattle.m3_base.specs.Arrive.{Arrived}
+use Rattle.m3_base.specs.Fits.{arrive_fit}
 use Rattle.m3_machine.specs.Naming.{is_named}
 use Rattle.m3_machine.specs.Parts.{Site, tile_of, has_program, heard_of, Parcel, Data, Save, Saved, Restore, Yield, Closed, Away, Seating, Is_placed, Is_leaving, Is_resting, Is_coming, Seat, Kernel, Deed, says, is_idle, dropped, closed_out}
 

@@ -1,4 +1,3 @@
-pub mod Arrive
 pub mod Parts
 pub mod Naming
 pub mod Tile

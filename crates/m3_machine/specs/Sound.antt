@@ -10,7 +10,7 @@ use Rattle.m3_base.specs.Land.{grant_of}
 use Rattle.m3_base.specs.State.{Grant, grant_in, holder, holder_ep}
 use Rattle.m3_base.specs.State.{State, context_of}
 use Rattle.m3_base.specs.Places.{target, is_here}
-use Rattle.m3_machine.specs.Arrive.{fits}
+use Rattle.m3_base.specs.Fits.{fits}
 use Rattle.m3_machine.specs.Parts.{Home, Site, tile_of, home_of, Parcel, Data, Save, Saved, Restore, Yield, Closed, Stay, Away, Seating, Is_placed, Is_leaving, Is_resting, Is_coming, Seat, Kernel}
 use Rattle.m3_machine.specs.Tile.{stay_of}
 use Rattle.m3_machine.specs.Kernel.{seat_of, placed_at, is_leaving_at, is_coming_seat, is_under_close, kernel_id}
