@@ -8,3 +8,4 @@ pub mod At
 pub mod Sound
 pub mod Moving
 pub mod Rows
+pub mod Links

@@ -1,2 +1,4 @@
-//! The machine: parts that share nothing, and links between them.
+//! The machine: parts that share nothing, the links between them, its events and its journal.
 #![tactic(auto)]
+
+pub mod links;
