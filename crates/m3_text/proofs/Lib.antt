@@ -1,0 +1,5 @@
+pub mod Cuts
+pub mod Values
+pub mod Forms
+pub mod Parts
+pub mod Digits

@@ -1,0 +1,26 @@
+-- Words as a line, and lines as a text.
+use Rattle.std.specs.Prelude.{ℕ, List, [], ◌∷◌, ◌++◌, codes, decimal, ◌==◌, if◌then◌else◌}
+use Rattle.std.specs.List.{flat_map}
+use Rattle.m3_base.specs.declared.ids.FlightId.{FlightId}
+use Rattle.m3_base.specs.Flight.{kernel}
+
+-- words, each behind a space
+abbrev pub spaced : List (List ℕ) → List ℕ
+spaced [] = []
+spaced (w ∷ ws) = 32 ∷ w ++ spaced ws
+
+-- words with single spaces between them
+abbrev pub line_text : List (List ℕ) → List ℕ
+line_text [] = []
+line_text (w ∷ ws) = w ++ spaced ws
+
+-- lines, each with its newline
+abbrev pub text_of_lines : List (List ℕ) → List ℕ
+text_of_lines ls = flat_map (λ l. l ++ 10 ∷ []) ls
+
+abbrev pub issuer_word : ℕ → List ℕ
+issuer_word i = if i == kernel then codes "k" else decimal i
+
+-- a flight's name
+abbrev pub flight_word : FlightId → List ℕ
+flight_word id = issuer_word id.issuer ++ codes "." ++ decimal id.number

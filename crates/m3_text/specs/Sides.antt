@@ -1,0 +1,31 @@
+-- Parts of a line side by side: the first cause of the parts is the line's.
+use Rattle.std.specs.Prelude.{ℕ, nat_le, if◌then◌else◌, Result, Ok, Err}
+use Rattle.m3_text.specs.declared.refusal.Why.{Why}
+use Rattle.m3_text.specs.declared.refusal.Why.TheVariants.{Form, Number, Hex, Place, Rule}
+use Rattle.m3_text.specs.declared.refusal.LineRefusal.{LineRefusal}
+
+abbrev pub rank : Why → ℕ
+rank Form = 0
+rank Number = 1
+rank Hex = 2
+rank Place = 3
+rank Rule = 4
+
+abbrev pub earlier : Why → Why → Why
+earlier a b = if nat_le (rank a) (rank b) then a else b
+
+-- both values, or the first cause of the two
+abbrev pub both : {A B : Type 0} → Result A Why → Result B Why → Result (A × B) Why
+both (Ok a) (Ok b) = Ok (a, b)
+both (Ok a) (Err e) = Err e
+both (Err d) (Ok b) = Err d
+both (Err d) (Err e) = Err (earlier d e)
+
+-- the same of what functions returned; want of memory comes first
+abbrev pub joined : {A B : Type 0} → Result A LineRefusal → Result B LineRefusal → Result (A × B) LineRefusal
+joined (Ok a) (Ok b) = Ok (a, b)
+joined (Ok a) (Err e) = Err e
+joined (Err LineRefusal.NoMemory) b = Err LineRefusal.NoMemory
+joined (Err (LineRefusal.Bad d)) (Ok b) = Err (LineRefusal.Bad d)
+joined (Err (LineRefusal.Bad d)) (Err LineRefusal.NoMemory) = Err LineRefusal.NoMemory
+joined (Err (LineRefusal.Bad d)) (Err (LineRefusal.Bad e)) = Err (LineRefusal.Bad (earlier d e))

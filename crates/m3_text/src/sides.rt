@@ -1,0 +1,36 @@
+//! Parts of a line, read side by side.
+
+ghost use Rattle.std.specs.Prelude.{◌≡◌};
+ghost use Rattle.m3_text.specs.Sides.{rank, earlier, joined};
+
+use crate::refusal::{LineRefusal, Why};
+
+fn rank(why: Why) -> u8
+    ensures { result ≡ rank why }
+{
+    why as u8
+}
+
+fn earlier(a: Why, b: Why) -> Why
+    ensures { result ≡ earlier a b }
+{
+    if rank(a) <= rank(b) { a } else { b }
+}
+
+/// Both values, or the first cause of the two.
+pub fn both<A: Drop, B: Drop>(
+    a: Result<A, LineRefusal>,
+    b: Result<B, LineRefusal>,
+) -> Result<(A, B), LineRefusal>
+    ensures { result ≡ joined a b }
+{
+    match (a, b) {
+        (Ok(a), Ok(b)) => Ok((a, b)),
+        (Err(LineRefusal::Bad(a)), Err(LineRefusal::Bad(b))) => Err(LineRefusal::Bad(earlier(
+            a, b,
+        ))),
+        (Err(LineRefusal::Bad(a)), Ok(_)) => Err(LineRefusal::Bad(a)),
+        (Ok(_), Err(LineRefusal::Bad(b))) => Err(LineRefusal::Bad(b)),
+        _ => Err(LineRefusal::NoMemory),
+    }
+}
