@@ -8,4 +8,5 @@ pub mod At
 pub mod Sound
 pub mod Moving
 pub mod Rows
+pub mod Homes
 pub mod Links

@@ -2,3 +2,4 @@
 #![tactic(auto)]
 
 pub mod links;
+pub mod site;
