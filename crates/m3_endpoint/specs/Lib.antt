@@ -1,0 +1,9 @@
+pub mod Forms
+pub mod SendView
+pub mod MemoryView
+pub mod Memory
+pub mod FetchedView
+pub mod Places
+pub mod ReceiveView
+pub mod Receive
+pub mod Records

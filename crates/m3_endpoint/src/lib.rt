@@ -1,0 +1,8 @@
+//! The records of an activity's endpoints. Once they are made, no call on them takes memory.
+#![tactic(auto)]
+
+mod fetched;
+pub mod memory;
+pub mod receive;
+pub mod record_kind;
+pub mod send;

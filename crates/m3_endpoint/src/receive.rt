@@ -1,0 +1,322 @@
+//! Receive records: unread messages in a ring of 32 places, and fetched ones beside it.
+
+ghost use Rattle.std.specs.Prelude.{◌≡◌, ℕ, ◌<◌, ◌≤◌, ◌↔◌, ◌==◌, ◌||◌, not, IsTrue, IsSome, IsOk, IsErr, true, IfSome, IfOk, IfErr, OnOk, None, Some, length, slice_get, option_map, option_copied};
+ghost use Rattle.m3_base.specs.Receive.{with_unread, freed, marking};
+ghost use Rattle.m3_base.specs.Fits.{is_form};
+ghost use Rattle.m3_endpoint.specs.Forms.{receive_form};
+ghost use Rattle.m3_endpoint.specs.Receive.{empty_record, closing_one, is_full_one, HasToken, token_of_fetch, after_fetch, unread_at, token_in, message_at, unmarked_at, marked_at, header_or_refusal, reply_header, replied, grant_in, size_in, closing_in, next_token_in, unread_count, fetched_count, token_at};
+
+use crate::fetched::{FetchedMessage, place_of};
+use circular_buffer::HeapCircularBuffer;
+use m3_base::command::Refusal;
+use m3_base::ids::GrantId;
+use m3_base::message::{Header, Message};
+use m3_base::packet::Fresh;
+use std::alloc::{AllocError, Global};
+use std::marker::Model;
+
+/// A receive record with room for 32 messages from the start. Contracts see its record, or none while it is unused.
+#[derive(Drop)]
+pub struct ReceiveEp {
+    used: bool,
+    grant: GrantId,
+    slots: u8,
+    size: u16,
+    unread: HeapCircularBuffer<Message>,
+    fetched: Vec<FetchedMessage>,
+    next_token: u32,
+    closing: bool,
+}
+
+impl Model for ReceiveEp {
+    ghost use Rattle.std.specs.Prelude.{Option};
+    ghost use Rattle.m3_base.specs.Context.{ReceiveRecord};
+
+    ghost Value = { Option ReceiveRecord };
+
+    ghost use Rattle.m3_endpoint.specs.ReceiveView.{receive_record, IsKept};
+
+    ghost view = { receive_record };
+
+    ghost invariant = { IsKept };
+}
+
+impl ReceiveEp {
+    /// An unused one.
+    pub fn new(alloc: Global) -> Result<ReceiveEp, AllocError>
+        ensures { IfOk result (λ r. r ≡ None) }
+    {
+        let unread = HeapCircularBuffer::with_capacity(alloc, 32)?;
+        let fetched = Vec::with_capacity(alloc, 32)?;
+        Ok(ReceiveEp {
+            used: false,
+            grant: GrantId::new(1),
+            slots: 1,
+            size: 1,
+            unread,
+            fetched,
+            next_token: 0,
+            closing: false,
+        })
+    }
+
+    /// It is used from now on, for messages of at most `size` bytes, and has no message yet.
+    pub fn open(&mut self, grant: GrantId, slots: u8, size: u16)
+        requires unused { self.old ≡ None }
+        requires form { IsTrue (is_form (Fresh.Receive grant slots size)) }
+        ensures { self.new ≡ Some (empty_record grant slots size) }
+    {
+        self.used = true;
+        self.grant = grant;
+        self.slots = slots;
+        self.size = size;
+        self.next_token = 0;
+        self.closing = false;
+    }
+
+    /// It is unused from now on, and its messages are dropped.
+    pub fn shut(&mut self)
+        ensures { self.new ≡ None }
+    {
+        self.unread.clear();
+        self.fetched.clear();
+        self.used = false;
+    }
+
+    /// The record is closing from now on.
+    pub fn close(&mut self)
+        requires { IsSome self.old }
+        ensures { self.new ≡ option_map closing_one self.old }
+    {
+        self.closing = true;
+    }
+
+    /// A message joins the unread ones. Err, with the message, exactly where all slots are occupied.
+    pub fn deposit(&mut self, message: Message) -> Result<(), Message>
+        requires { IsSome self.old }
+        ensures ok { OnOk result (self.new ≡ option_map (λ r. with_unread r message) self.old) }
+        ensures full { IsErr result ↔ IsTrue (is_full_one self.old) }
+        ensures err { IfErr result (λ back. (back ≡ message) × (self.new ≡ self.old)) }
+    {
+        if self.unread.len() + self.fetched.len() >= self.slots as usize {
+            return Err(message);
+        }
+        self.unread.try_push_back(message)
+    }
+
+    /// The oldest unread message is fetched, under the next token. None exactly where none is unread.
+    pub fn fetch(&mut self) -> Option<u32>
+        requires { HasToken self.old }
+        ensures token { result ≡ token_of_fetch self.old }
+        ensures messages { self.new ≡ after_fetch self.old }
+    {
+        if !self.used {
+            return None;
+        }
+        match self.unread.pop_front() {
+            None => None,
+            Some(message) => {
+                let token = self.next_token;
+                self.next_token += 1;
+                match self.fetched.push(FetchedMessage::new(token, message)) {
+                    Ok(()) => Some(token),
+                    Err(_) => unreachable!(),
+                }
+            }
+        }
+    }
+
+    /// The oldest unread message. None exactly where none is unread.
+    pub fn front(&self) -> Option<&Message>
+        ensures { option_copied result ≡ unread_at self.now 0 }
+    {
+        if !self.used {
+            return None;
+        }
+        self.unread.front()
+    }
+
+    /// The message of this token. None exactly where none of this token is fetched, marked or not.
+    pub fn fetched(&self, token: u32) -> Option<&Message>
+        ensures { option_copied result ≡ message_at token self.now }
+    {
+        if !self.used {
+            return None;
+        }
+        match place_of(&self.fetched, token) {
+            None => None,
+            Some(place) => Some(self.fetched[place].message()),
+        }
+    }
+
+    /// Frees the slot of the message of this token. `NoSuchToken` exactly where none of this token is fetched, or it
+    /// is being replied to; nothing has changed then.
+    pub fn acknowledge(&mut self, token: u32) -> Result<Header, Refusal>
+        ensures answer { result ≡ header_or_refusal (unmarked_at token self.old) }
+        ensures freed { IsOk result → self.new ≡ option_map (λ r. freed r token) self.old }
+        ensures refused { IsErr result → self.new ≡ self.old }
+    {
+        if !self.used {
+            return Err(Refusal::NoSuchToken);
+        }
+        match place_of(&self.fetched, token) {
+            None => Err(Refusal::NoSuchToken),
+            Some(place) => {
+                if self.fetched[place].marked() {
+                    return Err(Refusal::NoSuchToken);
+                }
+                let header = self.fetched[place].message().header;
+                self.fetched.remove(place);
+                Ok(header)
+            }
+        }
+    }
+
+    /// A reply to the message of this token begins. `NoSuchToken` exactly where none of this token is fetched, or it
+    /// is being replied to already, and else `NoReplyWanted` exactly where the message names no reply endpoint or is
+    /// itself a reply. Nothing has changed then.
+    pub fn begin_reply(&mut self, token: u32) -> Result<Header, Refusal>
+        ensures answer { result ≡ reply_header (unmarked_at token self.old) }
+        ensures marked { IsOk result → self.new ≡ option_map (λ r. marking true r token) self.old }
+        ensures refused { IsErr result → self.new ≡ self.old }
+    {
+        if !self.used {
+            return Err(Refusal::NoSuchToken);
+        }
+        match place_of(&self.fetched, token) {
+            None => Err(Refusal::NoSuchToken),
+            Some(place) => {
+                let fetched = &mut self.fetched[place];
+                if fetched.marked() {
+                    return Err(Refusal::NoSuchToken);
+                }
+                let header = fetched.message().header;
+                if wants_none(&header) {
+                    return Err(Refusal::NoReplyWanted);
+                }
+                fetched.set_marked(true);
+                Ok(header)
+            }
+        }
+    }
+
+    /// The reply to the message of this token has landed, and the slot is free; or it was refused, and the message
+    /// can be replied to again.
+    pub fn end_reply(&mut self, token: u32, landed: bool)
+        ensures { self.new ≡ option_map (replied landed token) self.old }
+    {
+        if !self.used {
+            return;
+        }
+        if let Some(place) = place_of(&self.fetched, token) {
+            if landed {
+                self.fetched.remove(place);
+            } else {
+                self.fetched[place].set_marked(false);
+            }
+        }
+    }
+
+    /// Whether it is used.
+    pub fn is_used(&self) -> bool
+        ensures { IsTrue result ↔ IsSome self.now }
+    {
+        self.used
+    }
+
+    /// The form that it was opened by.
+    pub fn fresh(&self) -> Fresh
+        requires { IsSome self.now }
+        ensures same { Some result ≡ option_map receive_form self.now }
+        ensures form { IsTrue (is_form result) }
+    {
+        Fresh::Receive {
+            grant: self.grant,
+            slots: self.slots,
+            size: self.size,
+        }
+    }
+
+    /// Its grant.
+    pub fn grant(&self) -> GrantId
+        requires { IsSome self.now }
+        ensures { Some result ≡ option_map grant_in self.now }
+    {
+        self.grant
+    }
+
+    /// The largest payload, in bytes.
+    pub fn size(&self) -> u16
+        requires { IsSome self.now }
+        ensures { Some result ≡ option_map size_in self.now }
+    {
+        self.size
+    }
+
+    /// Whether it is closing.
+    pub fn closing(&self) -> bool
+        requires { IsSome self.now }
+        ensures { Some result ≡ option_map closing_in self.now }
+    {
+        self.closing
+    }
+
+    /// How many messages were fetched since it was opened: the token of the next one.
+    pub fn next_token(&self) -> u32
+        requires { IsSome self.now }
+        ensures { Some result ≡ option_map next_token_in self.now }
+    {
+        self.next_token
+    }
+
+    /// How many messages are unread.
+    pub fn unread_len(&self) -> usize
+        requires { IsSome self.now }
+        ensures { Some result ≡ option_map unread_count self.now }
+    {
+        self.unread.len()
+    }
+
+    /// How many messages are fetched, marked or not.
+    pub fn fetched_len(&self) -> usize
+        requires { IsSome self.now }
+        ensures { Some result ≡ option_map fetched_count self.now }
+    {
+        self.fetched.len()
+    }
+
+    /// The unread message with `i` older ones. None exactly where `i` isn't below `unread_len`.
+    pub fn unread(&self, i: usize) -> Option<&Message>
+        requires { IsSome self.now }
+        ensures { option_copied result ≡ unread_at self.now i }
+    {
+        self.unread.get(i)
+    }
+
+    /// The token of the fetched message that was fetched after `i` others that are still there. None exactly where `i`
+    /// isn't below `fetched_len`.
+    pub fn fetched_token(&self, i: usize) -> Option<u32>
+        requires { IsSome self.now }
+        ensures { result ≡ token_at self.now i }
+    {
+        self.fetched.get(i).map(|f| f.token())
+    }
+
+    /// Whether a message of this token is being replied to.
+    pub fn marked(&self, token: u32) -> bool
+        requires { IsSome self.now }
+        ensures { result ≡ marked_at token self.now }
+    {
+        match place_of(&self.fetched, token) {
+            None => false,
+            Some(place) => self.fetched[place].marked(),
+        }
+    }
+}
+
+/// Whether a message with this header wants no reply: it is itself a reply, or names no reply endpoint.
+fn wants_none(header: &Header) -> bool
+    ensures { result ≡ (not (header.now.flags == 0) || (header.now.reply_ep == 255)) }
+{
+    header.flags != 0 || header.reply_ep == 255
+}
