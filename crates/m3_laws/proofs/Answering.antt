@@ -1,0 +1,111 @@
+-- An answer that comes home moves credits, and makes or loses none.
+use Rattle.std.proofs.Common.{◌≡◌, ◌≢◌, ℕ, zero, suc, ◌+◌, ◌-◌, ◌<◌, ◌≤◌, Bool, true, false, cond, List, [], ◌∷◌, ◌++◌, length, get_or, set, Some, None, refl, sym, subst, ◌∙◌, ap, arith}
+use Rattle.std.specs.Prelude.{Option, if◌then◌else◌, ◌==◌, nat_lt, not, ◌&&◌, ◌||◌}
+use Rattle.std.proofs.lemmas.Bool.Decides.{nat_tests}
+use Rattle.m3_base.specs.declared.ids.FlightId.{FlightId}
+use Rattle.m3_base.specs.declared.packet.Packet.{Packet}
+use Rattle.m3_base.specs.declared.command.Answer.{Answer}
+use Rattle.m3_base.specs.Sums.{total, one, how_many}
+use Rattle.m3_base.specs.Flight.{name_of, same_name, name_before, flight, new_flight, change_flight, end_flight}
+use Rattle.m3_base.specs.Context.{Kind, Sending, Replying, Reading, Writing, Flying, SendRecord, Fetched, ReceiveRecord, Endpoint, Free, Sends, Receives, Reaches, Context, endpoint, with_endpoint}
+use Rattle.m3_base.specs.Receive.{fetched_at, freed, marking}
+use Rattle.m3_base.specs.Land.{one_more, settled, answered, flying_at, without_flying, has_send, with_credit}
+use Rattle.m3_base.specs.State.{State, context_of, put_context, act_of, same_act, act_before}
+use Rattle.m3_base.specs.Credit.{gives_back, gives_back_by, gives_back_in, is_refusal, carries, waiting, credits}
+use Rattle.m3_base.proofs.Keyed.{total-replaced, total-without, how_many-without}
+use Rattle.m3_laws.proofs.Weights.{weight, context_weight, weight-one_more, owed-without_token, owed-with_mark, weight-credited}
+use Rattle.m3_laws.proofs.Issuing.{weight-with_endpoint}
+use Rattle.m3_laws.proofs.Landing.{EachAlike, SameBack, back_by_alike, alike-credited, credits_are, carries-put, how_many-agree}
+use Rattle.m3_laws.proofs.Standing.{StandsAt, IsBeingRepliedTo}
+use Rattle.m3_laws.proofs.Commands.{StandsBy}
+use Rattle.m3_laws.proofs.Moving.{Moved, credits_ended}
+use Rattle.m3_base.proofs.Names.{Apart, Distinct}
+
+-- what an answer gives back is what its endpoint gains
+pub weight-settled : (g : ℕ) (k : Kind) (t : ℕ) (answer : Answer) (e : Endpoint) → StandsAt k t e → weight g (settled k t answer e) ≡ weight g e + one (is_refusal answer && gives_back g k t e)
+weight-settled g Sending t (Answer.Refused why) (Sends r) h = grind (arith, nat_tests)
+weight-settled g Sending t Answer.Sent (Sends r) h = grind arith
+weight-settled g Sending t Answer.Replied (Sends r) h = grind arith
+weight-settled g Sending t Answer.Written (Sends r) h = grind arith
+weight-settled g Sending t (Answer.Bytes bytes) (Sends r) h = grind arith
+weight-settled g Replying t (Answer.Refused why) (Receives r) h = given_back (fetched_at t r.fetched) refl h
+  where
+    given_back : (o : Option Fetched) → fetched_at t r.fetched ≡ o → IsBeingRepliedTo (fetched_at t r.fetched) → weight g (Receives (marking false r t)) ≡ weight g (Receives r) + one (gives_back g Replying t (Receives r))
+    given_back o e h = grind (arith, nat_tests, owed-with_mark g t false r.fetched)
+weight-settled g Replying t Answer.Replied (Receives r) h = grind (arith, nat_tests, owed-without_token g t r.fetched)
+weight-settled g Replying t Answer.Sent (Receives r) h = grind arith
+weight-settled g Replying t Answer.Written (Receives r) h = grind arith
+weight-settled g Replying t (Answer.Bytes bytes) (Receives r) h = grind arith
+weight-settled g Reading t answer (Reaches r) h = grind arith
+weight-settled g Writing t answer (Reaches r) h = grind arith
+weight-settled g k t answer e h = omega arith
+
+-- at most this command flies
+abbrev pub OnlyFlies : Flying → Context → Type 0
+OnlyFlies f c = c.flying ≡ f ∷ []
+
+none_left : (f : Flying) (k : ℕ) → flying_at k (without_flying f.number (f ∷ [])) ≡ None
+none_left f k = grind (arith, nat_tests)
+
+not_flying : (f : Flying) (k : ℕ) → k ≢ f.number → flying_at k (f ∷ []) ≡ None
+not_flying f k h = grind (arith, nat_tests)
+
+pub answered_moved : (f : Flying) (answer : Answer) (c : Context) → OnlyFlies f c → Moved f.number c (answered f answer c)
+answered_moved f answer c only = record {
+  act = refl;
+  back = λ g k ne.
+      ap (gives_back_by g (answered f answer c)) (ap (λ fs. flying_at k (without_flying f.number fs)) only ∙ none_left f k)
+      ∙ sym (ap (gives_back_by g c) (ap (flying_at k) only ∙ not_flying f k ne));
+}
+
+not_free : (k : Kind) (t : ℕ) (e : Endpoint) → StandsAt k t e → e ≢ Free
+not_free Sending t e h q = subst (StandsAt Sending t) q h
+not_free Replying t e h q = subst (StandsAt Replying t) q h
+not_free Reading t e h q = subst (StandsAt Reading t) q h
+not_free Writing t e h q = subst (StandsAt Writing t) q h
+
+pub weight-answered : (g : ℕ) (f : Flying) (answer : Answer) (c : Context) → StandsAt f.kind f.token (endpoint c f.ep) → context_weight g (answered f answer c) ≡ context_weight g c + one (is_refusal answer && gives_back g f.kind f.token (endpoint c f.ep))
+weight-answered g f answer c h =
+    omega (
+      arith,
+      weight-settled g f.kind f.token answer (endpoint c f.ep) h,
+      weight-with_endpoint g c.endpoints f.ep (endpoint c f.ep) (settled f.kind f.token answer (endpoint c f.ep)) refl (not_free f.kind f.token (endpoint c f.ep) h),
+    )
+
+abbrev pub after_ending : State → FlightId → Context → State
+after_ending s id d = record s { contexts = put_context d s.contexts; flights = end_flight id s.flights }
+
+carries_own : (g : ℕ) (s : State) (id : FlightId) (answer : Answer) (c : Context) (f : Flying) → context_of id.issuer s.contexts ≡ Some c → flying_at id.number c.flying ≡ Some f → carries g s.contexts (Packet.Answer id answer) ≡ (is_refusal answer && gives_back g f.kind f.token (endpoint c f.ep))
+carries_own g s id answer c f at flies = rw (at, flies) refl
+
+-- an answer comes to the only flying command of its issuer
+pub answer_keeps : (g : ℕ) (s : State) (id : FlightId) (answer : Answer) (c : Context) (f : Flying) → context_of id.issuer s.contexts ≡ Some c → c.act ≡ id.issuer → OnlyFlies f c → f.number ≡ id.number → StandsAt f.kind f.token (endpoint c f.ep) → flight id s.flights ≡ Some (Packet.Answer id answer) → Distinct s.flights → credits g (after_ending s id (answered f answer c)) ≡ credits g s
+answer_keeps g s id answer c f at act only number stands find ds =
+    let flies : flying_at id.number c.flying ≡ Some f = rw only (grind (arith, nat_tests, number)) in
+    let here : context_of (answered f answer c).act s.contexts ≡ Some c = subst (λ a. context_of a s.contexts ≡ Some c) (sym act) at in
+    let moved : Moved id.number c (answered f answer c) = subst (λ n. Moved n c (answered f answer c)) number (answered_moved f answer c only) in
+    credits_are g (after_ending s id (answered f answer c))
+    ∙ credits_ended g id s.contexts s.flights c (answered f answer c) (Packet.Answer id answer) moved act here find ds refl (weight-answered g f answer c stands ∙ ap (λ b. context_weight g c + one b) (sym (carries_own g s id answer c f at flies)))
+    ∙ sym (credits_are g s)
+
+-- ---- a credit that lands
+
+pub weight-with_credit : (g h : ℕ) (c : Context) → context_weight g (with_credit h c) ≡ context_weight g c + one (has_send h c && (h == g))
+weight-with_credit g h c = weight-credited g h c.endpoints
+
+pub same_back-credit : (h : ℕ) (c : Context) → SameBack c (with_credit h c)
+same_back-credit h c = back_by_alike c (with_credit h c) refl refl (alike-credited h c.endpoints)
+
+pub credit_keeps : (g : ℕ) (s : State) (id : FlightId) (x : FlightId) (to h : ℕ) (c : Context) → context_of c.act s.contexts ≡ Some c → flight id s.flights ≡ Some (Packet.Credit x to h) → has_send h c ≡ true → credits g (after_ending s id (with_credit h c)) ≡ credits g s
+credit_keeps g s id x to h c at find home =
+    omega (
+      arith,
+      credits_are g s,
+      credits_are g (after_ending s id (with_credit h c)),
+      weight-with_credit g h c,
+      ap (λ b. one (b && (h == g))) home,
+      total-replaced act_of same_act act_before (context_weight g) (with_credit h c) c s.contexts at,
+      total-without name_of same_name name_before (waiting g) id (Packet.Credit x to h) s.flights find,
+      how_many-without name_of same_name name_before (carries g s.contexts) id (Packet.Credit x to h) s.flights find,
+      how_many-agree (carries g (put_context (with_credit h c) s.contexts)) (carries g s.contexts) (carries-put g s.contexts c (with_credit h c) (same_back-credit h c) at) (end_flight id s.flights),
+    )

@@ -1,0 +1,107 @@
+-- The records of flying commands stay, and what an answer gives back stays the same.
+use Rattle.std.proofs.Common.{◌≡◌, ◌≢◌, ℕ, zero, suc, ◌+◌, ◌-◌, ◌<◌, ◌≤◌, Bool, true, false, cond, List, [], ◌∷◌, ◌++◌, length, get_or, set, Some, None, refl, sym, subst, ◌∙◌, ap, arith}
+use Rattle.std.specs.Prelude.{Option, if◌then◌else◌, ◌==◌, nat_lt, not, ◌&&◌, ◌||◌}
+use Rattle.std.proofs.lemmas.Bool.Decides.{nat_tests}
+use Rattle.m3_base.specs.declared.message.Message.{Message}
+use Rattle.m3_base.specs.declared.packet.Packet.{Packet}
+use Rattle.m3_base.specs.declared.command.Answer.{Answer}
+use Rattle.m3_base.specs.declared.command.Command.{Command}
+use Rattle.m3_base.specs.Context.{Kind, Sending, Replying, Reading, Writing, Flying, SendRecord, Fetched, ReceiveRecord, MemoryRecord, Endpoint, Free, Sends, Receives, Reaches, Context, endpoint, with_endpoint}
+use Rattle.m3_base.specs.Receive.{with_unread, with_fetched, fetched_at, unmarked, without_token, with_mark, freed, marking}
+use Rattle.m3_base.specs.Issue.{less_one, send, reply, fetch, acknowledge, read, write, unless, first_of, launched, Issued, issue}
+use Rattle.m3_base.specs.Land.{one_more, sends_by, more_at, credited, joined, taken, flying_at, without_flying}
+use Rattle.m3_base.specs.Credit.{gives_back, gives_back_by, is_through}
+
+-- a message that was looked up is being replied to, and is no reply itself
+abbrev pub IsBeingRepliedTo : Option Fetched → Type 0
+IsBeingRepliedTo None = ⊥
+IsBeingRepliedTo (Some f) = (f.marked ≡ true) × (f.message.header.flags ≡ 0)
+
+-- the record that a flying command of this kind and token needs
+abbrev pub StandsAt : Kind → ℕ → Endpoint → Type 0
+StandsAt Sending t (Sends r) = Unit {0}
+StandsAt Replying t (Receives r) = IsBeingRepliedTo (fetched_at t r.fetched)
+StandsAt Reading t (Reaches r) = Unit {0}
+StandsAt Writing t (Reaches r) = Unit {0}
+StandsAt k t e = ⊥
+
+-- e may become d: what stands at e stands at d, and gives the same back
+pub record Safe (e d : Endpoint) : Type 0 where
+  pub stands : (k : Kind) (t : ℕ) → StandsAt k t e → StandsAt k t d
+  pub back : (k : Kind) (t : ℕ) → StandsAt k t e → (g : ℕ) → gives_back g k t d ≡ gives_back g k t e
+
+pub safe : (e : Endpoint) → Safe e e
+safe e = record { stands = λ k t h. h; back = λ k t h g. refl }
+
+pub safe-then : (a b c : Endpoint) → Safe a b → Safe b c → Safe a c
+safe-then a b c x y = record { stands = λ k t h. y.stands k t (x.stands k t h); back = λ k t h g. y.back k t (x.stands k t h) g ∙ x.back k t h g }
+
+-- from a Free endpoint nothing flies
+pub safe-free : (d : Endpoint) → Safe Free d
+safe-free d = record { stands = none; back = λ k t h g. absurd (never k t h) }
+  where
+    never : (k : Kind) (t : ℕ) → StandsAt k t Free → ⊥
+    never Sending t h = h
+    never Replying t h = h
+    never Reading t h = h
+    never Writing t h = h
+
+    none : (k : Kind) (t : ℕ) → StandsAt k t Free → StandsAt k t d
+    none k t h = absurd (never k t h)
+
+-- a send record with another number of credits
+pub safe-sends : (r q : SendRecord) → q.grant ≡ r.grant → Safe (Sends r) (Sends q)
+safe-sends r q e = record { stands = stay; back = same }
+  where
+    stay : (k : Kind) (t : ℕ) → StandsAt k t (Sends r) → StandsAt k t (Sends q)
+    stay Sending t h = tt
+    stay Replying t h = h
+    stay Reading t h = h
+    stay Writing t h = h
+
+    same : (k : Kind) (t : ℕ) → StandsAt k t (Sends r) → (g : ℕ) → gives_back g k t (Sends q) ≡ gives_back g k t (Sends r)
+    same Sending t h g = ap (λ n. n == g) e
+    same Replying t h g = refl
+    same Reading t h g = refl
+    same Writing t h g = refl
+
+-- a receive record in which each message that is being replied to stays
+pub record Stays (fs hs : List Fetched) : Type 0 where
+  pub stays : (t : ℕ) → IsBeingRepliedTo (fetched_at t fs) → fetched_at t hs ≡ fetched_at t fs
+
+pub safe-receives : (r q : ReceiveRecord) → ((t : ℕ) → IsBeingRepliedTo (fetched_at t r.fetched) → fetched_at t q.fetched ≡ fetched_at t r.fetched) → Safe (Receives r) (Receives q)
+safe-receives r q e = record { stands = stay; back = same }
+  where
+    stay : (k : Kind) (t : ℕ) → StandsAt k t (Receives r) → StandsAt k t (Receives q)
+    stay Sending t h = h
+    stay Replying t h = subst IsBeingRepliedTo (sym (e t h)) h
+    stay Reading t h = h
+    stay Writing t h = h
+
+    same : (k : Kind) (t : ℕ) → StandsAt k t (Receives r) → (g : ℕ) → gives_back g k t (Receives q) ≡ gives_back g k t (Receives r)
+    same Sending t h g = refl
+    same Replying t h g = ap (is_through g) (e t h)
+    same Reading t h g = refl
+    same Writing t h g = refl
+
+-- ---- the changes of fetched messages
+
+pub fetched_at-push : (t : ℕ) (f : Fetched) (fs : List Fetched) → IsBeingRepliedTo (fetched_at t fs) → fetched_at t (fs ++ f ∷ []) ≡ fetched_at t fs
+fetched_at-push t f [] h = absurd h
+fetched_at-push t f (x ∷ fs) h = grind (arith, fetched_at-push t f fs)
+
+pub fetched_at-without : (t u : ℕ) (fs : List Fetched) → t ≢ u → fetched_at t (without_token u fs) ≡ fetched_at t fs
+fetched_at-without t u [] h = refl
+fetched_at-without t u (x ∷ fs) h = grind (arith, nat_tests, fetched_at-without t u fs h)
+
+pub fetched_at-mark : (t u : ℕ) (b : Bool) (fs : List Fetched) → t ≢ u → fetched_at t (with_mark b u fs) ≡ fetched_at t fs
+fetched_at-mark t u b [] h = refl
+fetched_at-mark t u b (x ∷ fs) h = grind (arith, nat_tests, fetched_at-mark t u b fs h)
+
+-- one that is being replied to has another token than one that isn't marked
+pub apart_tokens : (t u : ℕ) (m : Message) (fs : List Fetched) → IsBeingRepliedTo (fetched_at t fs) → unmarked (fetched_at u fs) ≡ Some m → t ≢ u
+apart_tokens t u m fs h e same = clash (fetched_at u fs) (subst (λ v. IsBeingRepliedTo (fetched_at v fs)) same h) e
+  where
+    clash : (o : Option Fetched) → IsBeingRepliedTo o → unmarked o ≡ Some m → ⊥
+    clash None h e = h
+    clash (Some f) h e = grind (arith, h.0)

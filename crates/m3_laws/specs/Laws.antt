@@ -1,0 +1,120 @@
+-- The laws of runs with orders.
+use Rattle.std.specs.Prelude.{◌≡◌, ℕ, ◌<◌, ◌==◌, Bool, true, false, List, [], ◌∷◌, Option, Some, None}
+use Rattle.std.specs.List.{list_any}
+use Rattle.m3_base.specs.declared.step.Step.{Step}
+use Rattle.m3_base.specs.declared.setup_line.SetupLine.{SetupLine}
+use Rattle.m3_base.specs.declared.packet.Fresh.{Fresh}
+use Rattle.m3_base.specs.Flight.{kernel, flight}
+use Rattle.m3_base.specs.declared.ids.FlightId.{FlightId}
+use Rattle.m3_base.specs.declared.message.Message.{Message}
+use Rattle.m3_base.specs.declared.packet.Packet.{Packet}
+use Rattle.m3_base.specs.declared.command.Refusal.{Refusal}
+use Rattle.m3_base.specs.Steps.{number_of}
+use Rattle.m3_base.specs.Context.{Context, endpoint}
+use Rattle.m3_base.specs.Land.{grant_of, is_grant, has_send, land_refusal}
+use Rattle.m3_base.specs.State.{Standing, Live, Closing, Grant, State, context_of, grant_in, holder, holder_ep, parent_of, is_done}
+use Rattle.m3_base.specs.Grants.{holds_at}
+use Rattle.m3_base.specs.Opening.{opening, with_line}
+use Rattle.m3_base.specs.Messages.{final}
+use Rattle.m3_base.specs.Credit.{credits}
+
+-- live or closing
+abbrev pub is_open : Standing → Bool
+is_open Live = true
+is_open Closing = true
+is_open _ = false
+
+abbrev pub limit_of : Fresh → ℕ
+limit_of (Fresh.Send g to to_ep to_grant label size limit) = limit
+limit_of (Fresh.Receive g slots size) = 0
+limit_of (Fresh.Memory g start length perm) = 0
+
+-- a step whose endpoint is one of 16
+abbrev pub Fits : Step → Type 0
+Fits (Step.Make line) = holder_ep line < 16
+Fits t = Unit {0}
+
+abbrev pub AllFit : List Step → Type 0
+AllFit [] = Unit {0}
+AllFit (t ∷ ts) = Fits t × AllFit ts
+
+-- the setup's rules that the laws need: new activities below 64, and grants of declared holders at endpoints of their own
+abbrev pub Declared : Option Context → Type 0
+Declared None = ⊥
+Declared (Some c) = Unit {0}
+
+abbrev pub Obeys : State → SetupLine → Type 0
+Obeys s (SetupLine.Act a t) = (context_of a s.contexts ≡ None) × (a < kernel)
+Obeys s (SetupLine.Grant line) = (holder_ep line < 16) × (Declared (context_of (holder line) s.contexts) × (list_any (holds_at (holder line) (holder_ep line)) s.grants ≡ false))
+Obeys s line = Unit {0}
+
+abbrev pub AllObey : State → List SetupLine → Type 0
+AllObey s [] = Unit {0}
+AllObey s (l ∷ ls) = Obeys s l × AllObey (with_line s l) ls
+
+-- each live or closing grant has its limit of credits (0 for a grant that is no send grant)
+abbrev pub CreditsAt : State → Type 0
+CreditsAt s = (g : ℕ) (x : Grant) → grant_in s.grants g ≡ Some x → is_open x.standing ≡ true → credits g s ≡ limit_of x.fresh
+
+-- no activity has a record of a grant that is closed or done
+abbrev pub RecordsAt : State → Type 0
+RecordsAt s = (g : ℕ) (x : Grant) (a ep : ℕ) (c : Context) → grant_in s.grants g ≡ Some x → is_open x.standing ≡ false → context_of a s.contexts ≡ Some c → is_grant g (grant_of (endpoint c ep)) ≡ false
+
+-- under a grant that is done all are done
+abbrev pub ChildrenAt : State → Type 0
+ChildrenAt s = (g p : ℕ) (x y : Grant) → grant_in s.grants g ≡ Some x → grant_in s.grants p ≡ Some y → parent_of x.line ≡ Some p → is_done y.standing ≡ true → is_done x.standing ≡ true
+
+abbrev pub empty : ℕ → State
+empty memory = opening memory []
+
+abbrev pub Always : (State → Type 0) → Type 0
+Always P = (memory : ℕ) (lines : List SetupLine) (steps : List Step) → AllObey (empty memory) lines → AllFit steps → P (final (opening memory lines) steps)
+
+abbrev pub CreditLaw : Type 0
+CreditLaw = Always CreditsAt
+
+abbrev pub RecordLaw : Type 0
+RecordLaw = Always RecordsAt
+
+abbrev pub ChildrenLaw : Type 0
+ChildrenLaw = Always ChildrenAt
+
+-- ---- after a revoke
+
+-- the parent of g is p, and so on up to r
+abbrev pub parent_at : Option Grant → Option ℕ
+parent_at None = None
+parent_at (Some x) = parent_of x.line
+
+abbrev pub IsPath : List Grant → ℕ → ℕ → List ℕ → Type 0
+IsPath gs r g [] = g ≡ r
+IsPath gs r g (p ∷ ps) = (parent_at (grant_in gs g) ≡ Some p) × IsPath gs r p ps
+
+abbrev pub installs : ℕ → Packet → Bool
+installs g (Packet.Install id to ep f) = number_of f == g
+installs g packet = false
+
+abbrev pub closes : ℕ → Packet → Bool
+closes g (Packet.Close id to ep h) = h == g
+closes g packet = false
+
+-- nothing is left of the grant g but its line, and what comes late for it is discarded or refused
+pub record Gone (s : State) (g : ℕ) (x : Grant) : Type 0 where
+  pub done : is_done x.standing ≡ true
+  pub records : (a ep : ℕ) (c : Context) → context_of a s.contexts ≡ Some c → is_grant g (grant_of (endpoint c ep)) ≡ false
+  pub installed : (id : FlightId) (p : Packet) → flight id s.flights ≡ Some p → installs g p ≡ false
+  pub closed : (id : FlightId) (p : Packet) → flight id s.flights ≡ Some p → closes g p ≡ false
+  pub credit : (a : ℕ) (c : Context) → context_of a s.contexts ≡ Some c → has_send g c ≡ false
+  pub reply : (a ep : ℕ) (c : Context) (m : Message) → context_of a s.contexts ≡ Some c → land_refusal g m (endpoint c ep) ≡ Some Refusal.Revoked
+
+-- under a grant that is done all are gone
+abbrev pub GoneAt : State → Type 0
+GoneAt s = (r g : ℕ) (y x : Grant) (path : List ℕ) → grant_in s.grants r ≡ Some y → is_done y.standing ≡ true → IsPath s.grants r g path → grant_in s.grants g ≡ Some x → Gone s g x
+
+abbrev pub GoneLaw : Type 0
+GoneLaw = Always GoneAt
+
+-- from when a grant is done, all under it are gone
+abbrev pub GoneForever : Type 0
+GoneForever =
+    (memory : ℕ) (lines : List SetupLine) (steps more : List Step) → AllObey (empty memory) lines → AllFit steps → AllFit more → (r g : ℕ) (y x : Grant) (path : List ℕ) → grant_in (final (opening memory lines) steps).grants r ≡ Some y → is_done y.standing ≡ true → IsPath (final (opening memory lines) steps).grants r g path → grant_in (final (final (opening memory lines) steps) more).grants g ≡ Some x → Gone (final (final (opening memory lines) steps) more) g x
