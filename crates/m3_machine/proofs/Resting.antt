@@ -87,9 +87,9 @@ current_none (Some c) h = absurd (some_is c.act h)
     some_is : (a : ℕ) → Some a ≡ None → ⊥
     some_is a h = cc
 
-module _ (Lawful : State → Type 0) (h : Site) (m : Machine) (sound : IsSound Lawful h m) (t : ℕ) (low : 2 ≤ t) (high : t < 16) where
+module _ (h : Site) (m : Machine) (sound : IsSound h m) (t : ℕ) (low : 2 ≤ t) (high : t < 16) where
   walks_to : (qs : List Parcel) → link_at 0 t m ≡ qs → Walks (current_act (tile_at t m)) qs (placed_on h t m.kernel)
-  walks_to qs g = subst (λ l. Walks (current_act (tile_at t m)) l (placed_on h t m.kernel)) g (sound.walks t low high)
+  walks_to qs g = subst (λ l. Walks (current_act (tile_at t m)) l (placed_on h t m.kernel)) g (sound.seated.walks t low high)
 
   -- Save finds its activity current
   pub save_fits : (a : ℕ) (qs : List Parcel) → link_at 0 t m ≡ Save a ∷ qs → (c : Context) × ((tile_at t m).current ≡ Some c) × (c.act ≡ a)
