@@ -10,3 +10,4 @@ pub mod Moving
 pub mod Rows
 pub mod Homes
 pub mod Links
+pub mod Table
