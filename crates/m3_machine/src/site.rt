@@ -2,12 +2,14 @@
 
 ghost use Rattle.std.specs.Prelude.{◌≡◌, IfOk, OnOk, replicate, None, []};
 ghost use Rattle.m3_base.specs.declared.setup_line.SetupLine.{SetupLine};
-ghost use Rattle.m3_machine.specs.Parts.{home_of, tile_of};
-ghost use Rattle.m3_machine.specs.Naming.{is_home};
+ghost use Rattle.m3_base.specs.Places.{target};
+ghost use Rattle.m3_machine.specs.Parts.{home_of, tile_of, tile_for};
+ghost use Rattle.m3_machine.specs.Naming.{is_home, are_homes, acts_in_form, is_named};
 ghost use Rattle.m3_machine.specs.Machine.{with_home, site_of};
 ghost use Rattle.m3_machine.specs.Homes.{home_tile, site_before};
 
 use m3_base::ids::{ActId, TileId};
+use m3_base::packet::{Fresh, Packet};
 use m3_base::setup_line::SetupLine;
 use std::alloc::{AllocError, Global};
 use std::marker::Model;
@@ -131,6 +133,52 @@ impl Site {
         match self.tiles.get(usize::from(act)) {
             Some(tile) => tile.is_some(),
             None => false,
+        }
+    }
+
+    /// The tile that a packet goes to from where it arises: tile 1 for a read or a write, else the home of the activity
+    /// that it is for.
+    pub fn tile_for(&self, packet: &Packet) -> TileId
+        ensures { result ≡ tile_for self.now (target packet.now) }
+    {
+        match packet {
+            Packet::Message { to, .. } => self.tile_of(to.number()),
+            Packet::Credit { to, .. } => self.tile_of(to.number()),
+            Packet::Read { .. } => TileId::new(1),
+            Packet::Write { .. } => TileId::new(1),
+            Packet::Answer { id, .. } => self.tile_of(id.issuer),
+            Packet::Install { to, .. } => self.tile_of(to.number()),
+            Packet::Close { to, .. } => self.tile_of(to.number()),
+        }
+    }
+
+    /// Whether a record that is installed names activities of the setup alone.
+    fn names_form(&self, fresh: &Fresh) -> bool
+        ensures { result ≡ are_homes self.now (acts_in_form fresh.now) }
+    {
+        match fresh {
+            Fresh::Send { to, .. } => self.declares(to.number()),
+            Fresh::Receive { .. } => true,
+            Fresh::Memory { .. } => true,
+        }
+    }
+
+    /// Whether a packet names activities of the setup alone.
+    pub fn names(&self, packet: &Packet) -> bool
+        ensures { result ≡ is_named self.now packet.now }
+    {
+        match packet {
+            Packet::Message { to, message, .. } => {
+                self.declares(to.number()) && self.declares(message.id().issuer)
+            }
+            Packet::Credit { id, to, .. } => self.declares(id.issuer) && self.declares(to.number()),
+            Packet::Read { id, .. } => self.declares(id.issuer),
+            Packet::Write { id, .. } => self.declares(id.issuer),
+            Packet::Answer { id, .. } => self.declares(id.issuer),
+            Packet::Install { to, fresh, .. } => {
+                self.declares(to.number()) && self.names_form(fresh)
+            }
+            Packet::Close { to, .. } => self.declares(to.number()),
         }
     }
 }
