@@ -27,7 +27,7 @@ use Rattle.m3_machine.proofs.Saving.{moved_tokens}
 name-new : (n : FlightId) (p : Packet) (ps : List Packet) → same_name n (name_of p) ≡ false → flight n ps ≡ None → flight n (new_flight p ps) ≡ None
 name-new n p ps h k = flight-new n p ps h ∙ k
 
-name-by_name : (n : FlightId) (xs : List Packet) → flight n xs ≡ None → flight n (by_name xs) ≡ None
+pub name-by_name : (n : FlightId) (xs : List Packet) → flight n xs ≡ None → flight n (by_name xs) ≡ None
 name-by_name n [] h = refl
 name-by_name n (x ∷ xs) h = grind (arith, h, name-by_name n xs, name-new n x (by_name xs))
 

@@ -5,7 +5,7 @@ use Rattle.m3_base.specs.declared.event.Said.{Said}
 use Rattle.m3_base.specs.declared.packet.Packet.{Packet}
 use Rattle.m3_base.specs.Keyed as keyed
 use Rattle.m3_base.specs.Context.{Context}
-use Rattle.m3_base.specs.State.{State, same_act}
+use Rattle.m3_base.specs.State.{same_act}
 use Rattle.m3_base.specs.Places.{target, is_here}
 use Rattle.m3_machine.specs.Parts.{Site, tile_of, Parcel, Data, Save, Saved, Restore, Heard, Away, Is_placed, Is_leaving, Is_coming, Seat, Kernel, Deed}
 use Rattle.m3_machine.specs.Tile.{act_in}

@@ -26,7 +26,7 @@ apart-new : (a : ℕ) (c : Context) (cs : List Context) → (a == c.act) ≡ fal
 apart-new a c [] h k = grind (arith, nat_tests)
 apart-new a c (x ∷ cs) h k = grind (arith, nat_tests, apart-new a c cs h)
 
-apart-by_act : (a : ℕ) (xs : List Context) → context_of a xs ≡ None → context_of a (by_act xs) ≡ None
+pub apart-by_act : (a : ℕ) (xs : List Context) → context_of a xs ≡ None → context_of a (by_act xs) ≡ None
 apart-by_act a [] h = refl
 apart-by_act a (x ∷ xs) h = grind (arith, nat_tests, h, apart-by_act a xs, apart-new a x (by_act xs))
 

@@ -45,7 +45,7 @@ absent_add : (a : ℕ) (f : List Context) (c : Context) (b : List Context) → (
 absent_add a [] c b d h = grind (arith, h, d)
 absent_add a (x ∷ f) c b d h = grind (arith, h, d, absent_add a f c b d)
 
-apart_drop : (f : List Context) (c : Context) (b : List Context) → ActsApart (f ++ c ∷ b) → ActsApart (f ++ b)
+pub apart_drop : (f : List Context) (c : Context) (b : List Context) → ActsApart (f ++ c ∷ b) → ActsApart (f ++ b)
 apart_drop [] c b h = h.1
 apart_drop (x ∷ f) c b h = (absent_drop x.act f c b h.0, apart_drop f c b h.1)
 
@@ -55,7 +55,7 @@ absent_other a x xs h = grind (arith, nat_tests, h)
 absent_rest : (a : ℕ) (x : Context) (xs : List Context) → context_of a (x ∷ xs) ≡ None → context_of a xs ≡ None
 absent_rest a x xs h = grind (arith, nat_tests, h)
 
-apart_add : (f : List Context) (c : Context) (b : List Context) → context_of c.act (f ++ b) ≡ None → ActsApart (f ++ b) → ActsApart (f ++ c ∷ b)
+pub apart_add : (f : List Context) (c : Context) (b : List Context) → context_of c.act (f ++ b) ≡ None → ActsApart (f ++ b) → ActsApart (f ++ c ∷ b)
 apart_add [] c b h a = (h, a)
 apart_add (x ∷ f) c b h a =
     (absent_add x.act f c b (absent_other c.act x (f ++ b) h) a.0, apart_add f c b (absent_rest c.act x (f ++ b) h) a.1)

@@ -1,5 +1,5 @@
 -- The activities that packets and contexts name. A part takes nothing that names one outside of the setup.
-use Rattle.std.specs.Prelude.{ℕ, Bool, ◌&&◌, nat_le, List, [], ◌∷◌, ◌++◌, map, is_some}
+use Rattle.std.specs.Prelude.{ℕ, Bool, true, ◌&&◌, nat_le, List, [], ◌∷◌, is_some}
 use Rattle.std.specs.List.{list_all}
 use Rattle.m3_base.specs.declared.message.Message.{Message}
 use Rattle.m3_base.specs.declared.packet.Fresh.{Fresh}
@@ -37,20 +37,17 @@ is_named h p = are_homes h (acts_in p)
 
 -- ---- contexts
 
-abbrev pub sender_of : Message → ℕ
-sender_of m = m.header.sender
+abbrev pub is_from_home : Site → Message → Bool
+is_from_home h m = is_home h m.header.sender
 
-abbrev pub fetched_sender : Fetched → ℕ
-fetched_sender f = f.message.header.sender
-
-abbrev pub acts_at : Endpoint → List ℕ
-acts_at Free = []
-acts_at (Sends r) = r.to ∷ []
-acts_at (Receives r) = map sender_of r.unread ++ map fetched_sender r.fetched
-acts_at (Reaches r) = []
+abbrev pub is_fetched_from_home : Site → Fetched → Bool
+is_fetched_from_home h f = is_from_home h f.message
 
 abbrev pub names_at : Site → Endpoint → Bool
-names_at h e = are_homes h (acts_at e)
+names_at h Free = true
+names_at h (Sends r) = is_home h r.to
+names_at h (Receives r) = list_all (is_from_home h) r.unread && list_all (is_fetched_from_home h) r.fetched
+names_at h (Reaches r) = true
 
 -- its records and messages name activities of the setup alone
 abbrev pub is_named_context : Site → Context → Bool

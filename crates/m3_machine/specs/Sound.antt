@@ -1,5 +1,5 @@
 -- What holds of a machine between any two steps: where its contexts and packets are.
-use Rattle.std.specs.Prelude.{◌≡◌, ℕ, ◌+◌, ◌<◌, ◌≤◌, Bool, true, false, not, ◌&&◌, ◌||◌, ◌==◌, List, [], ◌∷◌, length, map, Option, Some, None, ◌⊎◌, if◌then◌else◌}
+use Rattle.std.specs.Prelude.{◌≡◌, ℕ, ◌+◌, ◌<◌, ◌≤◌, Bool, true, false, not, ◌&&◌, ◌||◌, ◌==◌, List, [], ◌∷◌, length, map, slice_index_or, Option, Some, None, ◌⊎◌, if◌then◌else◌}
 use Rattle.std.specs.List.{list_any}
 use Rattle.m3_base.specs.declared.ids.FlightId.{FlightId}
 use Rattle.m3_base.specs.declared.packet.Packet.{Packet}
@@ -13,11 +13,11 @@ use Rattle.m3_base.specs.State.{Standing, Live, Closing, Grant, grant_in, holder
 use Rattle.m3_base.specs.Places.{target, is_here}
 use Rattle.m3_base.specs.Fits.{fits}
 use Rattle.m3_merge.specs.Parts.{Each}
-use Rattle.m3_machine.specs.Parts.{Home, Site, tile_of, home_of, home_act, Parcel, Data, Save, Saved, Restore, Yield, Closed, Stay, Away, Seating, Is_placed, Is_leaving, Is_resting, Is_coming, Seat, Kernel}
+use Rattle.m3_machine.specs.Parts.{Home, Site, tile_of, home_of, home_act, Parcel, Data, Save, Saved, Restore, Yield, Closed, Stay, Tile, Away, Seating, Is_placed, Is_leaving, Is_resting, Is_coming, Seat, Kernel}
 use Rattle.m3_machine.specs.Naming.{is_home, is_named, is_named_context}
 use Rattle.m3_machine.specs.Tile.{stay_of}
 use Rattle.m3_machine.specs.Kernel.{seat_act, seat_of, placed_at, is_placed_seat, is_leaving_seat, is_leaving_at, is_coming_seat, is_under_close, kernel_id}
-use Rattle.m3_machine.specs.Machine.{Machine, tile_at, link_at}
+use Rattle.m3_machine.specs.Machine.{Machine, empty_tile, tile_at, link_at}
 use Rattle.m3_machine.specs.At.{all_contexts, all_packets, all_closed, is_in, current_act, at}
 
 -- ---- apart
@@ -93,14 +93,14 @@ abbrev pub LivesAt : Site → ℕ → ℕ → Type 0
 LivesAt h t a = (y : Home) × (home_of a h ≡ Some y) × (y.tile ≡ t)
 
 -- an activity as its home tile has it
-abbrev pub stay_at : Site → Machine → ℕ → Option Stay
-stay_at h m a = stay_of a (tile_at (tile_of h a) m)
+abbrev pub stay_at : Site → List Tile → ℕ → Option Stay
+stay_at h ts a = stay_of a (slice_index_or ts (tile_of h a) (empty_tile (tile_of h a)))
 
 pub record IsHoused (h : Site) (m : Machine) : Type 0 where
   -- the kernel has a seat for each activity, in the order of the setup
   pub seats : map seat_act m.kernel.seats ≡ map home_act h.homes
   pub tiles : (t : ℕ) → t < 16 → (tile_at t m).tile ≡ t
-  pub stays : (a : ℕ) → is_home h a ≡ true → IsThere (stay_at h m a)
+  pub stays : (a : ℕ) → is_home h a ≡ true → IsThere (stay_at h m.tiles a)
   pub current : (t : ℕ) (c : Context) → (tile_at t m).current ≡ Some c → LivesAt h t c.act
 
 -- ---- parcels
@@ -120,16 +120,16 @@ GoesTo h to None = to ≡ 1
 GoesTo h to (Some a) = (to ≡ 0) ⊎ (to ≡ tile_of h a)
 
 -- what may be on the link from one tile to another
-abbrev pub ParcelOk : Site → Machine → ℕ → ℕ → Parcel → Type 0
-ParcelOk h m from to (Data p) = (is_named h p ≡ true) × GoesTo h to (target p)
-ParcelOk h m from to (Save a) = (from ≡ 0) × (is_home h a ≡ true) × (to ≡ tile_of h a)
-ParcelOk h m from to (Saved c waiting ended) = (to ≡ 0) × (is_home h c.act ≡ true) × (from ≡ tile_of h c.act) × EndedAs ended (stay_at h m c.act)
-ParcelOk h m from to (Restore c xs) = (from ≡ 0) × (is_home h c.act ≡ true) × (to ≡ tile_of h c.act)
-ParcelOk h m from to (Yield a) = (to ≡ 0) × (from ≡ tile_of h a) × (is_here_seat (seat_of a m.kernel) ≡ true)
-ParcelOk h m from to (Closed g) = to ≡ 0
+abbrev pub ParcelOk : Site → Kernel → List Tile → ℕ → ℕ → Parcel → Type 0
+ParcelOk h k ts from to (Data p) = (is_named h p ≡ true) × GoesTo h to (target p)
+ParcelOk h k ts from to (Save a) = (from ≡ 0) × (is_home h a ≡ true) × (to ≡ tile_of h a)
+ParcelOk h k ts from to (Saved c waiting ended) = (to ≡ 0) × (is_home h c.act ≡ true) × (from ≡ tile_of h c.act) × EndedAs ended (stay_at h ts c.act)
+ParcelOk h k ts from to (Restore c xs) = (from ≡ 0) × (is_home h c.act ≡ true) × (to ≡ tile_of h c.act)
+ParcelOk h k ts from to (Yield a) = (to ≡ 0) × (from ≡ tile_of h a) × (is_here_seat (seat_of a k) ≡ true)
+ParcelOk h k ts from to (Closed g) = to ≡ 0
 
 abbrev pub ParcelsOk : Site → Machine → Type 0
-ParcelsOk h m = (from to : ℕ) → from < 16 → to < 16 → Each (ParcelOk h m from to) (link_at from to m)
+ParcelsOk h m = (from to : ℕ) → from < 16 → to < 16 → Each (ParcelOk h m.kernel m.tiles from to) (link_at from to m)
 
 -- no Yield of this activity
 abbrev pub no_yield : ℕ → List Parcel → Bool
@@ -174,14 +174,14 @@ has_home t xs = list_any (λ x. x.tile == t) xs
 abbrev pub HeldOk : Site → ℕ → Packet → Type 0
 HeldOk h a p = (is_named h p ≡ true) × (target p ≡ Some a)
 
-abbrev pub SeatOk : Site → Machine → Seat → Seating → Type 0
-SeatOk h m x Is_placed = x.hold ≡ []
-SeatOk h m x Is_leaving = Unit {0}
-SeatOk h m x (Is_resting y) = (y.context.act ≡ x.act) × EndedAs y.ended (stay_at h m x.act)
-SeatOk h m x (Is_coming y) = (y.context.act ≡ x.act) × EndedAs y.ended (stay_at h m x.act)
+abbrev pub SeatOk : Site → List Tile → Seat → Seating → Type 0
+SeatOk h ts x Is_placed = x.hold ≡ []
+SeatOk h ts x Is_leaving = Unit {0}
+SeatOk h ts x (Is_resting y) = (y.context.act ≡ x.act) × EndedAs y.ended (stay_at h ts x.act)
+SeatOk h ts x (Is_coming y) = (y.context.act ≡ x.act) × EndedAs y.ended (stay_at h ts x.act)
 
 pub record IsSeated (h : Site) (m : Machine) : Type 0 where
-  pub seats : (a : ℕ) (x : Seat) → seat_of a m.kernel ≡ Some x → SeatOk h m x x.seating × Each (HeldOk h x.act) x.hold
+  pub seats : (a : ℕ) (x : Seat) → seat_of a m.kernel ≡ Some x → SeatOk h m.tiles x x.seating × Each (HeldOk h x.act) x.hold
   -- a tile with activities has one that is Placed or one that comes, and at most one that leaves
   pub filled : (t : ℕ) → how_many (is_placed_at h t) m.kernel.seats + how_many (is_coming_at h t) m.kernel.seats ≡ one (has_home t h.homes)
   pub leaving : (t : ℕ) → how_many (is_leaving_at h t) m.kernel.seats ≤ how_many (is_coming_at h t) m.kernel.seats
