@@ -32,16 +32,16 @@ module _ (xs : List Home) (tiles : List (Option ℕ)) (are : AreTiles xs tiles) 
     count = length-set tiles x.act (Some x.tile) ∙ are.count;
     same = λ a.
         ⊎_elim
-          (λ (e : a ≡ x.act).
-            ap (λ b. get_or (set tiles x.act (Some x.tile)) b None) e
-              ∙ get_or-set_same tiles x.act (Some x.tile) None (omega (arith, are.count))
-              ∙ ap home_tile (sym (found_last x.act xs x (sym (are.same x.act) ∙ none) refl))
-              ∙ ap (λ b. home_tile (found b (xs ++ x ∷ []))) (sym e))
-          (λ (ne : a ≡ x.act → ⊥).
-            get_or-set_other tiles x.act a (Some x.tile) None ne
-              ∙ are.same a
-              ∙ ap home_tile (sym (found_other a xs x ne)))
-          (cases_eq a x.act);
+        (λ (e : a ≡ x.act).
+        ap (λ b. get_or (set tiles x.act (Some x.tile)) b None) e
+        ∙ get_or-set_same tiles x.act (Some x.tile) None (omega (arith, are.count))
+        ∙ ap home_tile (sym (found_last x.act xs x (sym (are.same x.act) ∙ none) refl))
+        ∙ ap (λ b. home_tile (found b (xs ++ x ∷ []))) (sym e))
+        (λ (ne : a ≡ x.act → ⊥).
+        get_or-set_other tiles x.act a (Some x.tile) None ne
+        ∙ are.same a
+        ∙ ap home_tile (sym (found_other a xs x ne)))
+        (cases_eq a x.act);
   }
 
   pub tiles_without : (t : ℕ) → get_or tiles x.act None ≡ Some t → AreTiles (xs ++ x ∷ []) tiles
@@ -49,13 +49,13 @@ module _ (xs : List Home) (tiles : List (Option ℕ)) (are : AreTiles xs tiles) 
     count = are.count;
     same = λ a.
         ⊎_elim
-          (λ (e : a ≡ x.act).
-            are.same a
-              ∙ ap (λ b. home_tile (found b xs)) e
-              ∙ ap home_tile (sym (found_before x.act t xs x (sym (are.same x.act) ∙ some)))
-              ∙ ap (λ b. home_tile (found b (xs ++ x ∷ []))) (sym e))
-          (λ (ne : a ≡ x.act → ⊥). are.same a ∙ ap home_tile (sym (found_other a xs x ne)))
-          (cases_eq a x.act);
+        (λ (e : a ≡ x.act).
+        are.same a
+        ∙ ap (λ b. home_tile (found b xs)) e
+        ∙ ap home_tile (sym (found_before x.act t xs x (sym (are.same x.act) ∙ some)))
+        ∙ ap (λ b. home_tile (found b (xs ++ x ∷ []))) (sym e))
+        (λ (ne : a ≡ x.act → ⊥). are.same a ∙ ap home_tile (sym (found_other a xs x ne)))
+        (cases_eq a x.act);
   }
 
 -- ---- as the table is read

@@ -1,14 +1,23 @@
 -- What arrives, and what is issued, names activities of the setup alone where the context and the packet do.
-use Rattle.std.proofs.Common.{◌≡◌, ℕ, zero, suc, Bool, true, false, List, [], ◌∷◌, ◌++◌, refl, arith, set, get_or}
+use Rattle.std.proofs.Common.{◌≡◌, ◌≢◌, ℕ, zero, suc, ◌+◌, Bool, true, false, cond, List, [], ◌∷◌, ◌++◌, Some, None, refl, sym, subst, ◌∙◌, ap, arith, set, get_or}
+use Rattle.std.specs.Prelude.{Option, if◌then◌else◌, ◌==◌, not, ◌&&◌, ◌||◌}
 use Rattle.std.specs.List.{list_all}
+use Rattle.std.proofs.lemmas.Bool.Decides.{nat_tests}
+use Rattle.m3_base.specs.declared.ids.FlightId.{FlightId}
 use Rattle.m3_base.specs.declared.message.Message.{Message}
 use Rattle.m3_base.specs.declared.command.Answer.{Answer}
+use Rattle.m3_base.specs.declared.command.Command.{Command}
+use Rattle.m3_base.specs.declared.command.Refusal.{Refusal}
+use Rattle.m3_base.specs.declared.packet.Packet.{Packet}
 use Rattle.m3_base.specs.declared.packet.Fresh.{Fresh}
-use Rattle.m3_base.specs.Context.{Kind, Fetched, Endpoint, Free, Sends, Receives, Reaches, opened}
-use Rattle.m3_base.specs.Receive.{without_token, with_mark}
-use Rattle.m3_base.specs.Land.{joined, credited, closed_at, settled}
+use Rattle.m3_base.specs.Flight.{name_of}
+use Rattle.m3_base.specs.Context.{Kind, Sending, Replying, Reading, Writing, Flying, SendRecord, Fetched, ReceiveRecord, Endpoint, Free, Sends, Receives, Reaches, Context, endpoint, with_endpoint, opened}
+use Rattle.m3_base.specs.Receive.{with_unread, with_fetched, fetched_at, unmarked, without_token, with_mark, freed, marking}
+use Rattle.m3_base.specs.Land.{Landed, land, land_by, land_refusal, joined, credited, with_credit, taken, closed_at, settled, answered, has_live, flies_at, flying_at, frees, message_id}
+use Rattle.m3_base.specs.Arrive.{Arrived, arrive, close_arrives, answer_arrives, settles}
+use Rattle.m3_base.specs.Places.{target}
 use Rattle.m3_machine.specs.Parts.{Site}
-use Rattle.m3_machine.specs.Naming.{is_home, acts_in_form, is_from_home, is_fetched_from_home, names_at}
+use Rattle.m3_machine.specs.Naming.{is_home, is_named, acts_in, acts_in_form, is_from_home, is_fetched_from_home, names_at, is_named_context}
 
 -- ---- lists of endpoints
 
@@ -73,3 +82,65 @@ module _ (h : Site) where
   opened_named (Fresh.Send grant to to_ep to_grant label size limit) a = grind (arith, a)
   opened_named (Fresh.Receive grant slots size) a = refl
   opened_named (Fresh.Memory grant start length perm) a = refl
+
+-- ---- what arrives
+
+abbrev pub NamedIf : Site → Option Packet → Type 0
+NamedIf h None = Unit {0}
+NamedIf h (Some q) = is_named h q ≡ true
+
+module _ (h : Site) (c : Context) (named : is_named_context h c ≡ true) where
+  at_endpoint : (ep : ℕ) → names_at h (endpoint c ep) ≡ true
+  at_endpoint ep = all_get h c.endpoints ep named
+
+  -- the context, and the answer, name activities of the setup alone
+  abbrev pub NamedBy : Option Arrived → Type 0
+  NamedBy None = Unit {0}
+  NamedBy (Some r) = (is_named_context h r.context ≡ true) × NamedIf h r.answer
+
+  taken_named : (ep : ℕ) (m : Message) → is_from_home h m ≡ true → is_named_context h (taken ep m c) ≡ true
+  taken_named ep m n = by_flags (m.header.flags == 0) joins (all_credited h m.header.send (set c.endpoints ep (joined m (endpoint c ep))) joins)
+    where
+      joins : list_all (names_at h) (set c.endpoints ep (joined m (endpoint c ep))) ≡ true
+      joins = all_set h c.endpoints ep (joined m (endpoint c ep)) named (joined_named h m (endpoint c ep) (at_endpoint ep) n)
+
+      by_flags : (b : Bool) → list_all (names_at h) (set c.endpoints ep (joined m (endpoint c ep))) ≡ true → list_all (names_at h) (credited m.header.send (set c.endpoints ep (joined m (endpoint c ep)))) ≡ true
+          → is_named_context h (if b then with_endpoint c ep (joined m (endpoint c ep)) else with_credit m.header.send (with_endpoint c ep (joined m (endpoint c ep)))) ≡ true
+      by_flags true x y = x
+      by_flags false x y = y
+
+  land_named : (ep : ℕ) (m : Message) → is_from_home h m ≡ true → (why : Option Refusal)
+      → (is_named_context h (land_by ep m c why).context ≡ true) × (is_named h (land_by ep m c why).answer ≡ true)
+  land_named ep m n None = (taken_named ep m n, grind (arith, n))
+  land_named ep m n (Some x) = (named, grind (arith, n))
+
+  answered_named : (x : Flying) (answer : Answer) → is_named_context h (answered x answer c) ≡ true
+  answered_named x answer = all_set h c.endpoints x.ep (settled x.kind x.token answer (endpoint c x.ep)) named (settled_named h x.kind x.token answer (endpoint c x.ep) (at_endpoint x.ep))
+
+  settles_named : (id : FlightId) (answer : Answer) (d : Context) (ep : ℕ) → is_named_context h d ≡ true → (o : Option ℕ) → NamedBy (settles id answer d ep o)
+  settles_named id answer d ep n None = (n, tt)
+  settles_named id answer d ep n (Some g) = (all_set h d.endpoints ep Free n refl, tt)
+
+  flying_named : (id : FlightId) (answer : Answer) (o : Option Flying) → NamedBy (answer_arrives c id answer o)
+  flying_named id answer None = tt
+  flying_named id answer (Some x) = settles_named id answer (answered x answer c) x.ep (answered_named x answer) (frees x.ep (answered x answer c))
+
+  close_named : (id : FlightId) (ep g : ℕ) (b : Bool) → NamedBy (close_arrives c id ep g (with_endpoint c ep (closed_at (endpoint c ep))) b)
+  close_named id ep g b = by_flying b (all_set h c.endpoints ep (closed_at (endpoint c ep)) named (closed_named h (endpoint c ep) (at_endpoint ep)))
+    where
+      by_flying : (b : Bool) → list_all (names_at h) (set c.endpoints ep (closed_at (endpoint c ep))) ≡ true → NamedBy (close_arrives c id ep g (with_endpoint c ep (closed_at (endpoint c ep))) b)
+      by_flying true x = (x, tt)
+      by_flying false x = (all_set h (set c.endpoints ep (closed_at (endpoint c ep))) ep Free x refl, tt)
+
+  live_named : (id : FlightId) (ep g : ℕ) (b : Bool) → NamedBy (cond b (close_arrives c id ep g (with_endpoint c ep (closed_at (endpoint c ep))) (flies_at ep c)) None)
+  live_named id ep g true = close_named id ep g (flies_at ep c)
+  live_named id ep g false = tt
+
+  pub arrive_names : (p : Packet) → is_named h p ≡ true → NamedBy (arrive c p)
+  arrive_names (Packet.Message to ep g m) n = land_named ep m (grind (arith, n)) (land_refusal g m (endpoint c ep))
+  arrive_names (Packet.Credit id to g) n = (all_credited h g c.endpoints named, tt)
+  arrive_names (Packet.Read id g place buffer) n = tt
+  arrive_names (Packet.Write id g place payload) n = tt
+  arrive_names (Packet.Answer id answer) n = flying_named id answer (flying_at id.number c.flying)
+  arrive_names (Packet.Install id to ep f) n = (all_set h c.endpoints ep (opened f) named (opened_named h f (grind (arith, n))), tt)
+  arrive_names (Packet.Close id to ep g) n = live_named id ep g (has_live g (endpoint c ep))
