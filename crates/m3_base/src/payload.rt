@@ -5,6 +5,7 @@ ghost use Rattle.m3_base.specs.Names.{IsName};
 
 use std::alloc::{AllocError, Global};
 use std::marker::Model;
+use std::str;
 
 /// The bytes of a message, of a read or of a write. Contracts see their list.
 #[derive(Debug, Drop)]
@@ -75,5 +76,15 @@ impl Name {
         ensures { result ≡ bytes.items }
     {
         Name { bytes }
+    }
+    /// The text of the name.
+    #[tactic(auto, using(crate::proofs::Ascii::name_is_utf8))]
+    pub fn text(&self) -> &str
+        ensures { result.now ≡ self.now }
+    {
+        match str::from_utf8(self.bytes.as_slice()) {
+            Ok(text) => text,
+            Err(_) => unreachable!(),
+        }
     }
 }
