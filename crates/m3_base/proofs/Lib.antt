@@ -2,3 +2,6 @@ pub mod Names
 pub mod Sorting
 pub mod Keyed
 pub mod Ascii
+pub mod SetupTables
+pub mod SetupGrow
+pub mod SetupRules

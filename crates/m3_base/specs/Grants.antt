@@ -1,6 +1,6 @@
 -- What the kernel does with grants.
-use Rattle.std.specs.Prelude.{ℕ, zero, suc, ◌+◌, ◌-◌, Bool, true, false, not, ◌&&◌, ◌||◌, ◌==◌, nat_lt, nat_le, List, [], ◌∷◌, ◌++◌, length, replicate, slice_get, slice_set, count_by, Option, Some, None, is_some, is_none, if◌then◌else◌}
-use Rattle.std.specs.List.{list_any, list_all}
+use Rattle.std.specs.Prelude.{ℕ, ◌+◌, ◌-◌, Bool, true, false, not, ◌&&◌, ◌||◌, ◌==◌, nat_lt, nat_le, List, [], ◌∷◌, ◌++◌, length, slice_get, slice_set, count_by, Option, Some, None, is_none, if◌then◌else◌}
+use Rattle.std.specs.List.{list_any}
 use Rattle.m3_base.specs.declared.ids.FlightId.{FlightId}
 use Rattle.m3_base.specs.declared.packet.Fresh.{Fresh}
 use Rattle.m3_base.specs.declared.order.GrantLine.{GrantLine}
@@ -9,7 +9,7 @@ use Rattle.m3_base.specs.declared.packet.Perm.{Perm}
 use Rattle.m3_base.specs.declared.event.No.{No}
 use Rattle.m3_base.specs.Flight.{kernel, new_flight}
 use Rattle.m3_base.specs.Issue.{may_read, may_write}
-use Rattle.m3_base.specs.State.{Standing, Live, Closing, Closed, Done, Grant, State, holder, holder_ep, parent_of, grant_in, parent_in, undone, is_done, is_live, is_number, is_child}
+use Rattle.m3_base.specs.State.{Standing, Live, Closing, Closed, Grant, State, holder, holder_ep, parent_of, grant_in, parent_in, undone, is_done, is_live, is_child}
 
 -- ---- the record that a new grant's line stands for
 

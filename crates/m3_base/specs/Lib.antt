@@ -12,6 +12,10 @@ pub mod Steps
 pub mod Arrive
 pub mod Fits
 pub mod Opening
+pub mod Limits
+pub mod Setup
+pub mod SetupTables
+pub mod SetupFacts
 pub mod Entries
 pub mod Belongs
 pub mod Credit

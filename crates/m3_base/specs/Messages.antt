@@ -9,7 +9,7 @@ use Rattle.m3_base.specs.declared.command.Command.{Command}
 use Rattle.m3_base.specs.declared.command.Reply.{Reply}
 use Rattle.m3_base.specs.declared.step.Step.{Step}
 use Rattle.m3_base.specs.Flight.{same_name, flight}
-use Rattle.m3_base.specs.Context.{Context, Endpoint, Receives, Free, endpoint}
+use Rattle.m3_base.specs.Context.{Context, endpoint}
 use Rattle.m3_base.specs.Issue.{Told, Issued, issue}
 use Rattle.m3_base.specs.Land.{message_id, land_refusal}
 use Rattle.m3_base.specs.State.{State, context_of}

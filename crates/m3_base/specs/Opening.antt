@@ -4,7 +4,7 @@ use Rattle.m3_base.specs.declared.packet.Fresh.{Fresh}
 use Rattle.m3_base.specs.declared.order.GrantLine.{GrantLine}
 use Rattle.m3_base.specs.declared.setup_line.SetupLine.{SetupLine}
 use Rattle.m3_base.specs.Context.{Context, new_context, opened, with_endpoint}
-use Rattle.m3_base.specs.State.{Grant, State, context_of, new_context_in, put_context, holder, holder_ep, parent_of, parent_in}
+use Rattle.m3_base.specs.State.{State, context_of, new_context_in, put_context, holder, holder_ep, parent_of, parent_in}
 use Rattle.m3_base.specs.Grants.{form, new_grant}
 
 -- the contexts with a new record at this endpoint

@@ -1,11 +1,9 @@
 -- Where things are: the current activity of each tile, each activity's place and hold list, and the links.
-use Rattle.std.specs.Prelude.{◌≡◌, ℕ, ◌+◌, ◌-◌, ◌*◌, Bool, true, false, not, ◌&&◌, ◌||◌, ◌==◌, nat_lt, nat_le, List, [], ◌∷◌, ◌++◌, length, map, filter, replicate, slice_index_or, slice_set, Option, Some, None, is_some, is_none, if◌then◌else◌}
-use Rattle.std.specs.List.{list_any, list_all}
+use Rattle.std.specs.Prelude.{ℕ, ◌+◌, ◌*◌, Bool, true, false, not, ◌&&◌, ◌||◌, ◌==◌, nat_le, List, [], ◌∷◌, ◌++◌, length, filter, replicate, slice_index_or, slice_set, Option, Some, None, is_some, if◌then◌else◌}
+use Rattle.std.specs.List.{list_any}
 use Rattle.m3_base.specs.declared.ids.FlightId.{FlightId}
-use Rattle.m3_base.specs.declared.message.Message.{Message}
 use Rattle.m3_base.specs.declared.packet.Packet.{Packet}
 use Rattle.m3_base.specs.declared.command.Command.{Command}
-use Rattle.m3_base.specs.declared.command.Answer.{Answer}
 use Rattle.m3_base.specs.declared.step.Step.{Step}
 use Rattle.m3_base.specs.declared.event.Event.{Event}
 use Rattle.m3_base.specs.declared.order.Order.{Order}
@@ -14,14 +12,12 @@ use Rattle.m3_base.specs.declared.event.Said.{Said}
 use Rattle.m3_base.specs.declared.event.No.{No}
 use Rattle.m3_base.specs.declared.event.IdleWhy.{IdleWhy}
 use Rattle.m3_base.specs.declared.setup_line.SetupLine.{SetupLine}
-use Rattle.m3_base.specs.declared.order.GrantLine.{GrantLine}
 use Rattle.m3_base.specs.Keyed as keyed
-use Rattle.m3_base.specs.Flight.{kernel, flight}
+use Rattle.m3_base.specs.Flight.{flight}
 use Rattle.m3_base.specs.Context.{Context, endpoint}
 use Rattle.m3_base.specs.Issue.{is_busy, flies_always}
 use Rattle.m3_base.specs.State.{State, context_of, Grant}
 use Rattle.m3_base.specs.Grants.{may_close, kernel_id}
-use Rattle.m3_base.specs.State.{grant_in, holder}
 use Rattle.m3_base.specs.Steps.{Word, Answers, Is_closed, Ran, irun, has_unread}
 use Rattle.m3_base.specs.Entries.{said_of, ran_to}
 

@@ -1,16 +1,10 @@
 -- The ideal state: a context for each activity, the flights, the memory and the grants, and no place.
-use Rattle.std.specs.Prelude.{ℕ, ◌+◌, ◌-◌, Bool, true, false, not, ◌&&◌, ◌||◌, ◌==◌, nat_lt, nat_le, List, [], ◌∷◌, ◌++◌, length, replicate, slice_get, slice_set, count_by, Option, Some, None, is_some, if◌then◌else◌}
-use Rattle.std.specs.List.{list_any, list_all}
-use Rattle.m3_base.specs.declared.ids.FlightId.{FlightId}
+use Rattle.std.specs.Prelude.{ℕ, ◌-◌, Bool, true, false, ◌==◌, nat_lt, List, slice_get, Option, Some, None, if◌then◌else◌}
 use Rattle.m3_base.specs.declared.packet.Fresh.{Fresh}
 use Rattle.m3_base.specs.declared.order.GrantLine.{GrantLine}
-use Rattle.m3_base.specs.declared.setup_line.SetupLine.{SetupLine}
 use Rattle.m3_base.specs.declared.packet.Packet.{Packet}
-use Rattle.m3_base.specs.declared.packet.Perm.{Perm}
-use Rattle.m3_base.specs.declared.event.No.{No}
 use Rattle.m3_base.specs.Keyed as keyed
-use Rattle.m3_base.specs.Context.{Endpoint, Free, Context, new_context, opened, endpoint, with_endpoint}
-use Rattle.m3_base.specs.Issue.{may_read, may_write}
+use Rattle.m3_base.specs.Context.{Context}
 
 pub data Standing : Type 0 where
   Live Closing Closed Done : Standing

@@ -1,21 +1,20 @@
 -- The steps of the ideal machine, and its runs.
-use Rattle.std.specs.Prelude.{ℕ, ◌+◌, Bool, true, false, not, ◌&&◌, ◌||◌, ◌==◌, List, [], ◌∷◌, ◌++◌, length, Option, Some, None, is_some, if◌then◌else◌}
+use Rattle.std.specs.Prelude.{ℕ, ◌+◌, Bool, false, not, ◌&&◌, ◌==◌, List, [], ◌∷◌, length, Option, Some, None, if◌then◌else◌}
 use Rattle.m3_base.specs.declared.ids.FlightId.{FlightId}
 use Rattle.m3_base.specs.declared.message.Message.{Message}
 use Rattle.m3_base.specs.declared.command.Refusal.{Refusal}
 use Rattle.m3_base.specs.declared.command.Answer.{Answer}
-use Rattle.m3_base.specs.declared.command.Reply.{Reply}
 use Rattle.m3_base.specs.declared.packet.Packet.{Packet}
 use Rattle.m3_base.specs.declared.event.No.{No}
 use Rattle.m3_base.specs.declared.packet.Fresh.{Fresh}
 use Rattle.m3_base.specs.declared.command.Command.{Command}
 use Rattle.m3_base.specs.declared.order.GrantLine.{GrantLine}
 use Rattle.m3_base.specs.declared.step.Step.{Step}
-use Rattle.m3_base.specs.Flight.{flight, new_flight, change_flight, end_flight, name_of}
-use Rattle.m3_base.specs.Context.{Flying, Endpoint, Free, Sends, Receives, Reaches, Context, endpoint, with_endpoint, opened}
-use Rattle.m3_base.specs.Issue.{Told, Gives, Flies, Issued, issue}
+use Rattle.m3_base.specs.Flight.{flight, new_flight, change_flight, end_flight}
+use Rattle.m3_base.specs.Context.{Flying, Endpoint, Free, Receives, Context, endpoint, with_endpoint, opened}
+use Rattle.m3_base.specs.Issue.{Told, Issued, issue}
 use Rattle.m3_base.specs.Land.{Landed, land, has_send, with_credit, bytes_at, written_at, has_live, has_closing, closed_at, flies_at, flying_at, answered, frees}
-use Rattle.m3_base.specs.State.{Standing, Closed, Done, Grant, State, context_of, put_context, holder, holder_ep, grant_in, parent_in, parent_of, undone}
+use Rattle.m3_base.specs.State.{Closed, Done, Grant, State, context_of, put_context, holder, holder_ep, grant_in, parent_in, parent_of, undone}
 use Rattle.m3_base.specs.Grants.{form, make_refusal, made, revoke_refusal, revoked, may_close, close_sent, change_grant, kernel_id, is_closed_grant}
 
 -- what a step says

@@ -1,9 +1,8 @@
 -- The kernel's link to a tile, walked from the tile's current activity on.
-use Rattle.std.specs.Prelude.{◌≡◌, ℕ, Bool, true, false, ◌==◌, List, [], ◌∷◌, Option, Some, None, if◌then◌else◌}
-use Rattle.m3_base.specs.declared.ids.FlightId.{FlightId}
+use Rattle.std.specs.Prelude.{◌≡◌, ℕ, ◌==◌, List, [], ◌∷◌, Option, Some, None, if◌then◌else◌}
 use Rattle.m3_base.specs.declared.packet.Packet.{Packet}
 use Rattle.m3_base.specs.Flight.{flight}
-use Rattle.m3_base.specs.Places.{Token, Data, Save, Saved, Restore, Yield, Closed, target_of, is_here}
+use Rattle.m3_base.specs.Places.{Token, Data, Save, Restore, target_of, is_here}
 
 -- where the walk is: off, or at a tile with this current activity
 pub data Walk : Type 0 where

@@ -2,6 +2,7 @@
 
 ghost use Rattle.std.specs.Prelude.{◌≡◌, IfOk};
 ghost use Rattle.m3_base.specs.Issue.{flies_always};
+ghost use Rattle.m3_base.specs.Limits.{is_short};
 
 use crate::ids::{EpId, FlightId};
 use crate::message::Message;
@@ -87,6 +88,18 @@ impl Command {
                     payload,
                 })
             }
+        }
+    }
+
+    /// Whether its payload, where it has one, is at most 8,192 bytes long.
+    pub fn is_short(&self) -> bool
+        ensures { result ≡ is_short self.now }
+    {
+        match self {
+            Command::Send { payload, .. } => payload.len() <= 8192,
+            Command::Reply { payload, .. } => payload.len() <= 8192,
+            Command::Write { payload, .. } => payload.len() <= 8192,
+            _ => true,
         }
     }
 

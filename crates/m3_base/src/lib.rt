@@ -4,9 +4,11 @@
 pub mod command;
 pub mod event;
 pub mod ids;
+pub mod journal;
 pub mod message;
 pub mod order;
 pub mod packet;
 pub mod payload;
+pub mod setup;
 pub mod setup_line;
 pub mod step;

@@ -1,5 +1,9 @@
 //! What the kernel is asked: grants, revokes, switches, and lines on files.
 
+ghost use Rattle.std.specs.Prelude.{◌≡◌};
+ghost use Rattle.m3_base.specs.State.{holder, holder_ep, parent_of};
+ghost use Rattle.m3_base.specs.Limits.{is_in_limits};
+
 use crate::ids::{ActId, EpId, GrantId, TileId};
 use crate::packet::Perm;
 use crate::payload::Name;
@@ -39,6 +43,57 @@ pub enum GrantLine {
         len: u32,
         perm: Perm,
     },
+}
+
+impl GrantLine {
+    /// Who is to hold the grant.
+    pub fn act(&self) -> ActId
+        ensures { result ≡ holder self.now }
+    {
+        match self {
+            GrantLine::Recv { act, .. } => *act,
+            GrantLine::Send { act, .. } => *act,
+            GrantLine::Range { act, .. } => *act,
+            GrantLine::Part { act, .. } => *act,
+        }
+    }
+
+    /// The holder's endpoint for it.
+    pub fn ep(&self) -> EpId
+        ensures { result ≡ holder_ep self.now }
+    {
+        match self {
+            GrantLine::Recv { ep, .. } => *ep,
+            GrantLine::Send { ep, .. } => *ep,
+            GrantLine::Range { ep, .. } => *ep,
+            GrantLine::Part { ep, .. } => *ep,
+        }
+    }
+
+    /// The grant that it is made under, where there is one.
+    pub fn parent(&self) -> Option<GrantId>
+        ensures { result ≡ parent_of self.now }
+    {
+        match self {
+            GrantLine::Send { of, .. } => Some(*of),
+            GrantLine::Part { of, .. } => Some(*of),
+            _ => None,
+        }
+    }
+
+    /// Whether its numbers are in their ranges: slots and credits, sizes, and lengths.
+    pub fn is_in_limits(&self) -> bool
+        ensures { result ≡ is_in_limits self.now }
+    {
+        match self {
+            GrantLine::Recv { slots, size, .. } => {
+                1 <= *slots && *slots <= 32 && (1 <= *size && *size <= 512)
+            }
+            GrantLine::Send { credits, .. } => 1 <= *credits && *credits <= 32,
+            GrantLine::Range { len, .. } => 0 < *len,
+            GrantLine::Part { len, .. } => 0 < *len,
+        }
+    }
 }
 
 /// An order to the kernel.

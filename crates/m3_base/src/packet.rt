@@ -2,6 +2,8 @@
 
 ghost use Rattle.std.specs.Prelude.{◌≡◌};
 ghost use Rattle.m3_base.specs.Flight.{name_of};
+ghost use Rattle.m3_base.specs.Issue.{may_read, may_write};
+ghost use Rattle.m3_base.specs.Grants.{is_within_perm};
 
 use crate::command::Answer;
 use crate::ids::{ActId, EpId, FlightId, GrantId};
@@ -14,6 +16,29 @@ pub enum Perm {
     R,
     W,
     Rw,
+}
+
+impl Perm {
+    /// Whether it permits reads.
+    pub fn may_read(self) -> bool
+        ensures { result ≡ may_read self }
+    {
+        matches!(self, Perm::R | Perm::Rw)
+    }
+
+    /// Whether it permits writes.
+    pub fn may_write(self) -> bool
+        ensures { result ≡ may_write self }
+    {
+        matches!(self, Perm::W | Perm::Rw)
+    }
+
+    /// Whether the other permits all that this one does.
+    pub fn is_within(self, other: Perm) -> bool
+        ensures { result ≡ is_within_perm self other }
+    {
+        (!self.may_read() || other.may_read()) && (!self.may_write() || other.may_write())
+    }
 }
 
 /// A record as the kernel installs it. A send record has 1 to 32 credits and a largest payload of 1 to 512 bytes, a

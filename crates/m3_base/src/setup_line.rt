@@ -49,3 +49,14 @@ pub enum SetupLine {
         fuel: u16,
     },
 }
+
+/// The kind of an activity's program. Only items make a program of several lines.
+#[derive(Clone, Copy, Debug, PartialEq, Eq, Drop)]
+pub enum ProgramKind {
+    /// It has none.
+    Absent,
+    /// A list of items.
+    Listed,
+    /// A pipe's writer or reader, or a handed-in logic.
+    Single,
+}
