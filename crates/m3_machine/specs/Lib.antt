@@ -10,4 +10,5 @@ pub mod Moving
 pub mod Rows
 pub mod Homes
 pub mod Links
+pub mod Aims
 pub mod Table
