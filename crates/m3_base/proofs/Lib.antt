@@ -5,3 +5,4 @@ pub mod Ascii
 pub mod SetupTables
 pub mod SetupGrow
 pub mod SetupRules
+pub mod Obeying

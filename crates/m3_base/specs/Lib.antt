@@ -14,6 +14,7 @@ pub mod Fits
 pub mod Opening
 pub mod Limits
 pub mod Setup
+pub mod Obeys
 pub mod SetupTables
 pub mod SetupFacts
 pub mod Entries
