@@ -5,9 +5,11 @@ mod grants;
 mod refusal;
 
 ghost use Rattle.std.specs.Prelude.{◌≡◌, ℕ, List, [], ◌∷◌, ◌++◌, true, false, None, Some, IfOk, OnOk, OnErr, Err, ◌↔◌, is_some};
-ghost use Rattle.m3_base.specs.Setup.{SetupValue, IsValid, facts_of, is_machine, refuses, home_in, program_in};
+ghost use Rattle.m3_base.specs.Setup.{SetupValue, IsValid, facts_of, is_machine, refuses, home_in, program_in, fresh_in};
+ghost use Rattle.m3_base.specs.State.{grant_in};
 
-use crate::ids::{ActId, TileId};
+use crate::ids::{ActId, GrantId, TileId};
+use crate::packet::Fresh;
 use crate::setup_line::{ProgramKind, SetupLine};
 use facts::SetupFacts;
 pub use refusal::SetupRefusal;
@@ -114,6 +116,13 @@ impl Setup {
         ensures { result ≡ program_in (facts_of self.now).programs act }
     {
         self.facts.program(act)
+    }
+
+    /// The record that the grant of this number begins with; None where the lines have fewer grants.
+    pub fn fresh(&self, g: GrantId) -> Option<Fresh>
+        ensures { result ≡ fresh_in (grant_in (facts_of self.now).grants g) }
+    {
+        self.facts.fresh(g)
     }
 
     /// Whether a line gives the files their grant.

@@ -3,13 +3,14 @@
 ghost use Rattle.std.specs.Prelude.{◌≡◌, ℕ, ◌+◌, ◌*◌, ◌<◌, ◌≤◌, true, false, Some, None, ◌||◌, nat_lt, ◌++◌, ◌∷◌, [], length, slice_set, IfOk, OnOk, OnErr};
 ghost use Rattle.std.specs.List.{list_any};
 ghost use Rattle.m3_base.specs.Limits.{is_within};
-ghost use Rattle.m3_base.specs.Setup.{no_lines, home_in, program_in, chunks, noted, refuses, is_undeclared, is_taken, is_pipe, is_fuel, is_machine, InRange, bars_writer, programmed, grant_added};
+ghost use Rattle.m3_base.specs.Setup.{no_lines, home_in, program_in, chunks, noted, refuses, is_undeclared, is_taken, is_pipe, is_fuel, is_machine, InRange, bars_writer, programmed, grant_added, fresh_in};
 ghost use Rattle.m3_base.specs.Grants.{make_refusal};
-ghost use Rattle.m3_base.specs.State.{holder, holder_ep};
+ghost use Rattle.m3_base.specs.State.{holder, holder_ep, grant_in};
 
 use super::grants::SetupGrants;
-use crate::ids::{ActId, TileId};
+use crate::ids::{ActId, GrantId, TileId};
 use crate::order::GrantLine;
+use crate::packet::Fresh;
 use crate::setup_line::{ProgramKind, SetupLine};
 use std::alloc::{AllocError, Global};
 use std::marker::Model;
@@ -114,6 +115,13 @@ impl SetupFacts {
         ensures { result ≡ self.now.has_files }
     {
         self.has_files
+    }
+
+    /// The record that the grant of this number begins with.
+    pub fn fresh(&self, g: GrantId) -> Option<Fresh>
+        ensures { result ≡ fresh_in (grant_in self.now.grants g) }
+    {
+        self.grants.fresh(g)
     }
 
     /// The home tile of an activity, where it is declared.

@@ -193,6 +193,16 @@ impl SetupGrants {
         }
     }
 
+    /// The record that the grant of this number begins with.
+    pub fn fresh(&self, g: GrantId) -> Option<Fresh>
+        ensures { result ≡ fresh_in (grant_in self.now g) }
+    {
+        match self.get(g) {
+            Some(grant) => Some(grant.fresh),
+            None => None,
+        }
+    }
+
     /// Whether the grant of this number is a range or part that may be read and written, with a block's 256 bytes.
     pub fn may_hold_files(&self, g: GrantId) -> bool
         ensures { result ≡ may_hold_files (fresh_in (grant_in self.now g)) }
