@@ -1,0 +1,6 @@
+pub mod Commands
+pub mod Orders
+pub mod Events
+pub mod Outcomes
+pub mod Setups
+pub mod Texts

@@ -1,0 +1,119 @@
+//! The words of setup lines.
+
+ghost use Rattle.std.specs.Prelude.{◌≡◌, ◌∷◌, ◌++◌, [], OnOk, string_bytes};
+ghost use Rattle.m3_text.specs.Printing.{spaced, line_text};
+ghost use Rattle.m3_text.specs.Hexes.{hex_text};
+ghost use Rattle.m3_journal.specs.Setups.{machine_words, writer_ends, reader_ends, writer_words, reader_words, pipe_words, fuel_words, setup_words};
+
+use crate::commands::put_command;
+use crate::orders::put_grant;
+use m3_base::ids::{ActId, EpId};
+use m3_base::setup_line::SetupLine;
+use m3_text::printing::put_hex;
+use std::alloc::AllocError;
+use std::fmt::Write;
+
+/// The first line of a setup.
+pub fn put_machine(out: &mut String, tiles: u8, memory: u32) -> Result<(), AllocError>
+    ensures { OnOk result (string_bytes out.new ≡ string_bytes out.old ++ line_text (machine_words tiles memory)) }
+{
+    write!(out, "machine tiles {tiles} memory {memory}")
+}
+
+/// A later line of a setup.
+pub fn put_setup_line(out: &mut String, line: &SetupLine) -> Result<(), AllocError>
+    ensures { OnOk result (string_bytes out.new ≡ string_bytes out.old ++ line_text (setup_words line.now)) }
+{
+    match line {
+        SetupLine::Act { act, tile } => {
+            let act = act.number();
+            let tile = tile.number();
+            write!(out, "act {act} tile {tile}")
+        }
+        SetupLine::Quantum(quantum) => write!(out, "quantum {quantum}"),
+        SetupLine::Grant(line) => put_grant(out, line),
+        SetupLine::Files(grant) => {
+            let grant = grant.number();
+            write!(out, "files {grant}")
+        }
+        SetupLine::Item(act, command) => {
+            let act = act.number();
+            write!(out, "prog {act}")?;
+            put_command(out, command)
+        }
+        SetupLine::AwaitItem(act, ep) => {
+            let act = act.number();
+            let ep = ep.number();
+            write!(out, "prog {act} await {ep}")
+        }
+        SetupLine::Writer { act, mem, send, reply, chunk, ring, bytes } => {
+            put_writer(out, *act, *mem, *send, *reply, *chunk, *ring, bytes.bytes())
+        }
+        SetupLine::Reader { act, mem, recv, chunk, ring, fuel } => {
+            put_reader(out, *act, *mem, *recv, *chunk, *ring, *fuel)
+        }
+        SetupLine::Boxed { act, logic, fuel } => {
+            let act = act.number();
+            write!(out, "box {act} {logic}")?;
+            put_fuel(out, *fuel)
+        }
+    }
+}
+
+fn put_writer(
+    out: &mut String, act: ActId, mem: EpId, send: EpId, reply: EpId, chunk: u16, ring: u8, bytes: &[u8],
+) -> Result<(), AllocError>
+    ensures { OnOk result (string_bytes out.new ≡ string_bytes out.old ++ line_text (writer_words act mem send reply chunk ring bytes.now)) }
+{
+    put_writer_ends(out, act, mem, send, reply)?;
+    put_pipe(out, chunk, ring)?;
+    put_bytes(out, bytes)
+}
+
+fn put_reader(
+    out: &mut String, act: ActId, mem: EpId, recv: EpId, chunk: u16, ring: u8, fuel: u16,
+) -> Result<(), AllocError>
+    ensures { OnOk result (string_bytes out.new ≡ string_bytes out.old ++ line_text (reader_words act mem recv chunk ring fuel)) }
+{
+    put_reader_ends(out, act, mem, recv)?;
+    put_pipe(out, chunk, ring)?;
+    put_fuel(out, fuel)
+}
+
+fn put_writer_ends(out: &mut String, act: ActId, mem: EpId, send: EpId, reply: EpId) -> Result<(), AllocError>
+    ensures { OnOk result (string_bytes out.new ≡ string_bytes out.old ++ line_text (writer_ends act mem send reply)) }
+{
+    let act = act.number();
+    let mem = mem.number();
+    let send = send.number();
+    let reply = reply.number();
+    write!(out, "writer {act} mem {mem} send {send} reply {reply}")
+}
+
+fn put_reader_ends(out: &mut String, act: ActId, mem: EpId, recv: EpId) -> Result<(), AllocError>
+    ensures { OnOk result (string_bytes out.new ≡ string_bytes out.old ++ line_text (reader_ends act mem recv)) }
+{
+    let act = act.number();
+    let mem = mem.number();
+    let recv = recv.number();
+    write!(out, "reader {act} mem {mem} recv {recv}")
+}
+
+fn put_pipe(out: &mut String, chunk: u16, ring: u8) -> Result<(), AllocError>
+    ensures { OnOk result (string_bytes out.new ≡ string_bytes out.old ++ spaced (pipe_words chunk ring)) }
+{
+    write!(out, " chunk {chunk} ring {ring}")
+}
+
+fn put_bytes(out: &mut String, bytes: &[u8]) -> Result<(), AllocError>
+    ensures { OnOk result (string_bytes out.new ≡ string_bytes out.old ++ spaced (hex_text bytes.now ∷ [])) }
+{
+    out.push_str(" ")?;
+    put_hex(out, bytes)
+}
+
+fn put_fuel(out: &mut String, fuel: u16) -> Result<(), AllocError>
+    ensures { OnOk result (string_bytes out.new ≡ string_bytes out.old ++ spaced (fuel_words fuel)) }
+{
+    write!(out, " fuel {fuel}")
+}
