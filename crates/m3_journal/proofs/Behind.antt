@@ -1,8 +1,9 @@
 -- Words behind a space, and the same as a line.
 use Rattle.std.proofs.Common.{◌≡◌, ℕ, List, [], ◌∷◌, ◌++◌, refl, ◌∙◌, append_assoc}
+use Rattle.std.proofs.lemmas.Grind.{flat_map-append}
 use Rattle.m3_base.specs.declared.order.GrantLine.{GrantLine}
 use Rattle.m3_base.specs.declared.order.GrantLine.TheVariants.{Recv, Send, Range, Part}
-use Rattle.m3_text.specs.Printing.{spaced, line_text}
+use Rattle.m3_text.specs.Printing.{spaced, line_text, text_of_lines}
 use Rattle.m3_journal.specs.Orders.{grant_words}
 
 pub spaced_grant : (line : GrantLine) → spaced (grant_words line) ≡ 32 ∷ line_text (grant_words line)
@@ -27,3 +28,6 @@ pub line_of_three : (old a b new : List ℕ) (w : List ℕ) (ws xs ys : List (Li
     → a ≡ old ++ line_text (w ∷ ws) → b ≡ a ++ spaced xs → new ≡ b ++ spaced ys → new ≡ old ++ line_text (w ∷ ws ++ (xs ++ ys))
 line_of_three old a b new w ws xs ys first second third =
     behind a b new xs ys second third ∙ rw (first, append_assoc old (line_text (w ∷ ws)) (spaced (xs ++ ys)), line_more w ws (xs ++ ys)) refl
+
+pub text_more : (ls more : List (List ℕ)) → text_of_lines (ls ++ more) ≡ text_of_lines ls ++ text_of_lines more
+text_more ls more = flat_map-append (λ (l : List ℕ). l ++ 10 ∷ []) ls more

@@ -3,4 +3,5 @@ pub mod Orders
 pub mod Events
 pub mod Outcomes
 pub mod Setups
+pub mod Audits
 pub mod Texts

@@ -30,24 +30,51 @@ pub fn put_grant(out: &mut String, line: &GrantLine) -> Result<(), AllocError>
     ensures { OnOk result (string_bytes out.new ≡ string_bytes out.old ++ line_text (grant_words line.now)) }
 {
     match line {
-        GrantLine::Recv { act, ep, slots, size } => {
+        GrantLine::Recv {
+            act,
+            ep,
+            slots,
+            size,
+        } => {
             let act = act.number();
             let ep = ep.number();
             write!(out, "recv {act} {ep} slots {slots} size {size}")
         }
-        GrantLine::Send { act, ep, of, label, credits } => {
+        GrantLine::Send {
+            act,
+            ep,
+            of,
+            label,
+            credits,
+        } => {
             let act = act.number();
             let ep = ep.number();
             let of = of.number();
-            write!(out, "send {act} {ep} of {of} label {label} credits {credits}")
+            write!(
+                out,
+                "send {act} {ep} of {of} label {label} credits {credits}"
+            )
         }
-        GrantLine::Range { act, ep, at, len, perm } => {
+        GrantLine::Range {
+            act,
+            ep,
+            at,
+            len,
+            perm,
+        } => {
             let act = act.number();
             let ep = ep.number();
             write!(out, "range {act} {ep}")?;
             put_extent(out, *at, *len, *perm)
         }
-        GrantLine::Part { act, ep, of, at, len, perm } => {
+        GrantLine::Part {
+            act,
+            ep,
+            of,
+            at,
+            len,
+            perm,
+        } => {
             let act = act.number();
             let ep = ep.number();
             let of = of.number();
@@ -94,7 +121,13 @@ pub fn put_file(out: &mut String, line: &FileLine) -> Result<(), AllocError>
             let name = name.text();
             write!(out, "file remove {name}")
         }
-        FileLine::Open { name, off, act, ep, perm } => {
+        FileLine::Open {
+            name,
+            off,
+            act,
+            ep,
+            perm,
+        } => {
             let name = name.text();
             let act = act.number();
             let ep = ep.number();

@@ -107,7 +107,12 @@ fn put_named(out: &mut String, name: &str, id: FlightId) -> Result<(), AllocErro
 }
 
 // A word, a flight's name and a grant.
-fn put_of_grant(out: &mut String, name: &str, id: FlightId, grant: GrantId) -> Result<(), AllocError>
+fn put_of_grant(
+    out: &mut String,
+    name: &str,
+    id: FlightId,
+    grant: GrantId,
+) -> Result<(), AllocError>
     ensures { OnOk result (string_bytes out.new ≡ string_bytes out.old ++ spaced (name.now ∷ flight_word id ∷ decimal grant ∷ [])) }
 {
     let grant = grant.number();
@@ -124,7 +129,13 @@ fn put_of_act(out: &mut String, name: &str, act: ActId) -> Result<(), AllocError
 }
 
 // A word, a grant, and the flight of the packet that went out for it.
-fn put_order_sent(out: &mut String, name: &str, grant: GrantId, id: FlightId, held: bool) -> Result<(), AllocError>
+fn put_order_sent(
+    out: &mut String,
+    name: &str,
+    grant: GrantId,
+    id: FlightId,
+    held: bool,
+) -> Result<(), AllocError>
     ensures { OnOk result (string_bytes out.new ≡ string_bytes out.old ++ spaced (name.now ∷ decimal grant ∷ flight_word id ∷ way_word held ∷ [])) }
 {
     let grant = grant.number();
@@ -134,7 +145,14 @@ fn put_order_sent(out: &mut String, name: &str, grant: GrantId, id: FlightId, he
     write!(out, " {way}")
 }
 
-fn put_message(out: &mut String, kind: &str, token: u32, from: ActId, label: u64, payload: &[u8]) -> Result<(), AllocError>
+fn put_message(
+    out: &mut String,
+    kind: &str,
+    token: u32,
+    from: ActId,
+    label: u64,
+    payload: &[u8],
+) -> Result<(), AllocError>
     ensures { OnOk result (string_bytes out.new ≡ string_bytes out.old ++ spaced (message_words kind.now token from label payload.now)) }
 {
     let from = from.number();
@@ -142,7 +160,12 @@ fn put_message(out: &mut String, kind: &str, token: u32, from: ActId, label: u64
     put_hex(out, payload)
 }
 
-fn put_answered(out: &mut String, id: FlightId, answer: &Answer, closed: Option<GrantId>) -> Result<(), AllocError>
+fn put_answered(
+    out: &mut String,
+    id: FlightId,
+    answer: &Answer,
+    closed: Option<GrantId>,
+) -> Result<(), AllocError>
     ensures { OnOk result (string_bytes out.new ≡ string_bytes out.old ++ spaced (answered_words id answer.now closed)) }
 {
     put_named(out, "answered", id)?;
@@ -155,8 +178,18 @@ fn put_said(out: &mut String, said: &Said) -> Result<(), AllocError>
 {
     match said {
         Said::Flying(id) => put_named(out, "flying", *id),
-        Said::Message { token, from, label, payload } => put_message(out, "message", *token, *from, *label, payload.bytes()),
-        Said::ReplyMessage { token, from, label, payload } => put_message(out, "reply", *token, *from, *label, payload.bytes()),
+        Said::Message {
+            token,
+            from,
+            label,
+            payload,
+        } => put_message(out, "message", *token, *from, *label, payload.bytes()),
+        Said::ReplyMessage {
+            token,
+            from,
+            label,
+            payload,
+        } => put_message(out, "reply", *token, *from, *label, payload.bytes()),
         Said::Nothing => out.push_str(" none"),
         Said::Acknowledged(credit) => put_acknowledged(out, *credit),
         Said::Refused(why) => {

@@ -1,28 +1,47 @@
-//! The words of setup lines.
+//! Setups as text.
 
-ghost use Rattle.std.specs.Prelude.{◌≡◌, ◌∷◌, ◌++◌, [], OnOk, string_bytes};
-ghost use Rattle.m3_text.specs.Printing.{spaced, line_text};
+ghost use Rattle.std.specs.Prelude.{◌≡◌, ◌∷◌, ◌++◌, [], OnOk, map, string_bytes};
+ghost use Rattle.m3_text.specs.Printing.{spaced, line_text, text_of_lines};
 ghost use Rattle.m3_text.specs.Hexes.{hex_text};
 ghost use Rattle.m3_journal.specs.Setups.{machine_words, writer_ends, reader_ends, writer_words, reader_words, pipe_words, fuel_words, setup_words};
+ghost use Rattle.m3_journal.specs.Texts.{setup_line, setup_lines};
 
 use crate::commands::put_command;
 use crate::orders::put_grant;
 use m3_base::ids::{ActId, EpId};
+use m3_base::setup::Setup;
 use m3_base::setup_line::SetupLine;
 use m3_text::printing::put_hex;
 use std::alloc::AllocError;
 use std::fmt::Write;
 
-/// The first line of a setup.
-pub fn put_machine(out: &mut String, tiles: u8, memory: u32) -> Result<(), AllocError>
+/// The lines of a setup.
+pub fn put_setup(out: &mut String, setup: &Setup) -> Result<(), AllocError>
+    ensures { OnOk result (string_bytes out.new ≡ string_bytes out.old ++ text_of_lines (setup_lines setup.now)) }
+{
+    put_machine(out, setup.tiles(), setup.memory())?;
+    out.push_str("\n")?;
+    put_later_lines(out, setup.lines())
+}
+
+fn put_later_lines(out: &mut String, lines: &[SetupLine]) -> Result<(), AllocError>
+    ensures { OnOk result (string_bytes out.new ≡ string_bytes out.old ++ text_of_lines (map setup_line lines.now)) }
+{
+    for line in lines {
+        put_setup_line(out, line)?;
+        out.push_str("\n")?;
+    }
+    Ok(())
+}
+
+fn put_machine(out: &mut String, tiles: u8, memory: u32) -> Result<(), AllocError>
     ensures { OnOk result (string_bytes out.new ≡ string_bytes out.old ++ line_text (machine_words tiles memory)) }
 {
     write!(out, "machine tiles {tiles} memory {memory}")
 }
 
-/// A later line of a setup.
-pub fn put_setup_line(out: &mut String, line: &SetupLine) -> Result<(), AllocError>
-    ensures { OnOk result (string_bytes out.new ≡ string_bytes out.old ++ line_text (setup_words line.now)) }
+fn put_setup_line(out: &mut String, line: &SetupLine) -> Result<(), AllocError>
+    ensures { OnOk result (string_bytes out.new ≡ string_bytes out.old ++ setup_line line.now) }
 {
     match line {
         SetupLine::Act { act, tile } => {
@@ -46,12 +65,23 @@ pub fn put_setup_line(out: &mut String, line: &SetupLine) -> Result<(), AllocErr
             let ep = ep.number();
             write!(out, "prog {act} await {ep}")
         }
-        SetupLine::Writer { act, mem, send, reply, chunk, ring, bytes } => {
-            put_writer(out, *act, *mem, *send, *reply, *chunk, *ring, bytes.bytes())
-        }
-        SetupLine::Reader { act, mem, recv, chunk, ring, fuel } => {
-            put_reader(out, *act, *mem, *recv, *chunk, *ring, *fuel)
-        }
+        SetupLine::Writer {
+            act,
+            mem,
+            send,
+            reply,
+            chunk,
+            ring,
+            bytes,
+        } => { put_writer(out, *act, *mem, *send, *reply, *chunk, *ring, bytes.bytes()) }
+        SetupLine::Reader {
+            act,
+            mem,
+            recv,
+            chunk,
+            ring,
+            fuel,
+        } => { put_reader(out, *act, *mem, *recv, *chunk, *ring, *fuel) }
         SetupLine::Boxed { act, logic, fuel } => {
             let act = act.number();
             write!(out, "box {act} {logic}")?;
@@ -61,7 +91,14 @@ pub fn put_setup_line(out: &mut String, line: &SetupLine) -> Result<(), AllocErr
 }
 
 fn put_writer(
-    out: &mut String, act: ActId, mem: EpId, send: EpId, reply: EpId, chunk: u16, ring: u8, bytes: &[u8],
+    out: &mut String,
+    act: ActId,
+    mem: EpId,
+    send: EpId,
+    reply: EpId,
+    chunk: u16,
+    ring: u8,
+    bytes: &[u8],
 ) -> Result<(), AllocError>
     ensures { OnOk result (string_bytes out.new ≡ string_bytes out.old ++ line_text (writer_words act mem send reply chunk ring bytes.now)) }
 {
@@ -71,7 +108,13 @@ fn put_writer(
 }
 
 fn put_reader(
-    out: &mut String, act: ActId, mem: EpId, recv: EpId, chunk: u16, ring: u8, fuel: u16,
+    out: &mut String,
+    act: ActId,
+    mem: EpId,
+    recv: EpId,
+    chunk: u16,
+    ring: u8,
+    fuel: u16,
 ) -> Result<(), AllocError>
     ensures { OnOk result (string_bytes out.new ≡ string_bytes out.old ++ line_text (reader_words act mem recv chunk ring fuel)) }
 {
@@ -80,7 +123,13 @@ fn put_reader(
     put_fuel(out, fuel)
 }
 
-fn put_writer_ends(out: &mut String, act: ActId, mem: EpId, send: EpId, reply: EpId) -> Result<(), AllocError>
+fn put_writer_ends(
+    out: &mut String,
+    act: ActId,
+    mem: EpId,
+    send: EpId,
+    reply: EpId,
+) -> Result<(), AllocError>
     ensures { OnOk result (string_bytes out.new ≡ string_bytes out.old ++ line_text (writer_ends act mem send reply)) }
 {
     let act = act.number();

@@ -9,8 +9,8 @@ use Rattle.m3_journal.proofs.setups.put_reader.Goals as goal
 pub returns : goal.returns
 returns c =
     on_ok_weaker c.put_fuel.result
-      (λ (h : string_bytes c.put_fuel.new.out ≡ string_bytes c.put_pipe.new.out ++ spaced (fuel_words c.args.fuel)).
-        line_of_three (string_bytes c.args.out.now) (string_bytes c.put_reader_ends.new.out) (string_bytes c.put_pipe.new.out) (string_bytes c.put_fuel.new.out)
-          (codes "reader") (decimal c.args.act ∷ codes "mem" ∷ decimal c.args.mem ∷ codes "recv" ∷ decimal c.args.recv ∷ [])
-          (pipe_words c.args.chunk c.args.ring) (fuel_words c.args.fuel) c.in_ok-put_reader_ends.ensures c.in_ok-put_pipe.ensures h)
-      c.put_fuel.ensures
+    (λ (h : string_bytes c.put_fuel.new.out ≡ string_bytes c.put_pipe.new.out ++ spaced (fuel_words c.args.fuel)).
+    line_of_three (string_bytes c.args.out.now) (string_bytes c.put_reader_ends.new.out) (string_bytes c.put_pipe.new.out) (string_bytes c.put_fuel.new.out)
+    (codes "reader") (decimal c.args.act ∷ codes "mem" ∷ decimal c.args.mem ∷ codes "recv" ∷ decimal c.args.recv ∷ [])
+    (pipe_words c.args.chunk c.args.ring) (fuel_words c.args.fuel) c.in_ok-put_reader_ends.ensures c.in_ok-put_pipe.ensures h)
+    c.put_fuel.ensures

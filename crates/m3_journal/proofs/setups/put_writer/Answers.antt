@@ -10,8 +10,8 @@ use Rattle.m3_journal.proofs.setups.put_writer.Goals as goal
 pub returns : goal.returns
 returns c =
     on_ok_weaker c.put_bytes.result
-      (λ (h : string_bytes c.put_bytes.new.out ≡ string_bytes c.put_pipe.new.out ++ spaced (hex_text c.args.bytes.now ∷ [])).
-        line_of_three (string_bytes c.args.out.now) (string_bytes c.put_writer_ends.new.out) (string_bytes c.put_pipe.new.out) (string_bytes c.put_bytes.new.out)
-          (codes "writer") (decimal c.args.act ∷ codes "mem" ∷ decimal c.args.mem ∷ codes "send" ∷ decimal c.args.send ∷ codes "reply" ∷ decimal c.args.reply ∷ [])
-          (pipe_words c.args.chunk c.args.ring) (hex_text c.args.bytes.now ∷ []) c.in_ok-put_writer_ends.ensures c.in_ok-put_pipe.ensures h)
-      c.put_bytes.ensures
+    (λ (h : string_bytes c.put_bytes.new.out ≡ string_bytes c.put_pipe.new.out ++ spaced (hex_text c.args.bytes.now ∷ [])).
+    line_of_three (string_bytes c.args.out.now) (string_bytes c.put_writer_ends.new.out) (string_bytes c.put_pipe.new.out) (string_bytes c.put_bytes.new.out)
+    (codes "writer") (decimal c.args.act ∷ codes "mem" ∷ decimal c.args.mem ∷ codes "send" ∷ decimal c.args.send ∷ codes "reply" ∷ decimal c.args.reply ∷ [])
+    (pipe_words c.args.chunk c.args.ring) (hex_text c.args.bytes.now ∷ []) c.in_ok-put_writer_ends.ensures c.in_ok-put_pipe.ensures h)
+    c.put_bytes.ensures

@@ -1,0 +1,83 @@
+//! Audits as text.
+
+ghost use Rattle.std.specs.Prelude.{◌≡◌, ◌∷◌, ◌++◌, [], OnOk, map, string_bytes};
+ghost use Rattle.m3_text.specs.Printing.{spaced, line_text, text_of_lines};
+ghost use Rattle.m3_journal.specs.Audits.{current_words, count_words, audit_words, yes_word};
+ghost use Rattle.m3_journal.specs.Texts.{audit_line};
+
+use m3_base::ids::ActId;
+use m3_base::journal::AuditLine;
+use std::alloc::AllocError;
+use std::fmt::Write;
+
+fn put_current(out: &mut String, act: Option<ActId>) -> Result<(), AllocError>
+    ensures { OnOk result (string_bytes out.new ≡ string_bytes out.old ++ spaced (current_words act)) }
+{
+    match act {
+        None => out.push_str(" none"),
+        Some(act) => {
+            let act = act.number();
+            write!(out, " act {act}")
+        }
+    }
+}
+
+fn yes_word(quiet: bool) -> &'static str
+    ensures { result.now ≡ yes_word quiet }
+{
+    if quiet { "yes" } else { "no" }
+}
+
+fn put_counts(
+    out: &mut String,
+    held: u32,
+    flying: u32,
+    queued: u32,
+    limit: u32,
+) -> Result<(), AllocError>
+    ensures { OnOk result (string_bytes out.new ≡ string_bytes out.old ++ spaced (count_words held flying queued limit)) }
+{
+    write!(
+        out,
+        " held {held} flying {flying} queued {queued} limit {limit}"
+    )
+}
+
+fn put_audit_line(out: &mut String, line: &AuditLine) -> Result<(), AllocError>
+    ensures { OnOk result (string_bytes out.new ≡ string_bytes out.old ++ audit_line line.now) }
+{
+    match line {
+        AuditLine::Credit {
+            grant,
+            held,
+            flying,
+            queued,
+            limit,
+        } => {
+            let grant = grant.number();
+            write!(out, "audit credit {grant}")?;
+            put_counts(out, *held, *flying, *queued, *limit)
+        }
+        AuditLine::Tile { tile, act } => {
+            let tile = tile.number();
+            write!(out, "audit tile {tile}")?;
+            put_current(out, *act)
+        }
+        AuditLine::Flights(count) => write!(out, "audit flights {count}"),
+        AuditLine::Quiet(quiet) => {
+            out.push_str("audit quiet ")?;
+            out.push_str(yes_word(*quiet))
+        }
+    }
+}
+
+/// A line for each line of an audit.
+pub fn put_audit(out: &mut String, lines: &[AuditLine]) -> Result<(), AllocError>
+    ensures { OnOk result (string_bytes out.new ≡ string_bytes out.old ++ text_of_lines (map audit_line lines.now)) }
+{
+    for line in lines {
+        put_audit_line(out, line)?;
+        out.push_str("\n")?;
+    }
+    Ok(())
+}
