@@ -104,6 +104,14 @@ impl ReceiveEp {
         self.unread.try_push_back(message)
     }
 
+    /// Whether all slots are occupied.
+    pub fn is_full(&self) -> bool
+        requires { IsSome self.now }
+        ensures { result ≡ is_full_one self.now }
+    {
+        self.unread.len() + self.fetched.len() >= self.slots as usize
+    }
+
     /// The oldest unread message is fetched, under the next token. None exactly where none is unread.
     pub fn fetch(&mut self) -> Option<u32>
         requires { HasToken self.old }
@@ -167,6 +175,28 @@ impl ReceiveEp {
                 }
                 let header = self.fetched[place].message().header;
                 self.fetched.remove(place);
+                Ok(header)
+            }
+        }
+    }
+
+    /// The header of the message of this token, which may be replied to. The refusals are those of `begin_reply`.
+    pub fn reply_header(&self, token: u32) -> Result<Header, Refusal>
+        ensures { result ≡ reply_header (unmarked_at token self.now) }
+    {
+        if !self.used {
+            return Err(Refusal::NoSuchToken);
+        }
+        match place_of(&self.fetched, token) {
+            None => Err(Refusal::NoSuchToken),
+            Some(place) => {
+                if self.fetched[place].marked() {
+                    return Err(Refusal::NoSuchToken);
+                }
+                let header = self.fetched[place].message().header;
+                if wants_none(&header) {
+                    return Err(Refusal::NoReplyWanted);
+                }
                 Ok(header)
             }
         }

@@ -1,0 +1,12 @@
+-- What a context is to a reader, and what it keeps.
+use Rattle.std.specs.Prelude.{◌≡◌, ◌≤◌, length, vec_capacity}
+use Rattle.m3_base.specs.Context.{Context}
+use Rattle.m3_base.specs.Issue.{window}
+use Rattle.m3_core.specs.declared.context.Context.TheInside.{Inside}
+
+abbrev pub context_of : Inside → Context
+context_of c = record { act = c.act; endpoints = c.slots.items; flying = c.flying.items; next = c.next }
+
+pub record IsKept (c : Inside) : Type 0 where
+  pub slots : length c.slots.items ≡ 16
+  pub room : window ≤ vec_capacity c.flying

@@ -1,0 +1,143 @@
+//! The context of an activity.
+
+mod issue;
+
+ghost use Rattle.std.specs.Prelude.{◌≡◌, ℕ, ◌+◌, ◌<◌, ◌≤◌, [], ◌∷◌, ◌++◌, length, replicate, false, IfOk, IsTrue, option_copied};
+ghost use Rattle.m3_base.specs.Context.{Free, new_context, endpoint};
+ghost use Rattle.m3_base.specs.Issue.{window, is_busy, next_id, launched};
+ghost use Rattle.m3_core.specs.FlyingView.{kind_of};
+ghost use Rattle.m3_endpoint.specs.Records.{endpoint_of};
+ghost use Rattle.m3_core.specs.Slots.{oldest_at, fetched_message_at};
+
+use crate::flying::{Flying, Kind};
+use crate::slot::Slot;
+use m3_base::ids::{ActId, EpId, FlightId};
+use m3_base::message::Message;
+use m3_endpoint::record_kind::Record;
+use std::alloc::{AllocError, Global};
+use std::marker::Model;
+
+/// How many commands of an activity fly at most.
+const WINDOW: usize = 1;
+
+/// One activity's endpoints, its flying commands and its next number. Contracts see these four. No call but `new` takes
+/// memory.
+#[derive(Drop)]
+pub struct Context {
+    act: ActId,
+    slots: Vec<Slot>,
+    flying: Vec<Flying>,
+    next: u32,
+}
+
+impl Model for Context {
+    ghost use Rattle.m3_base.specs.Context.{Context as Meaning};
+
+    ghost Value = { Meaning };
+
+    ghost use Rattle.m3_core.specs.ContextView.{context_of, IsKept};
+
+    ghost view = { context_of };
+
+    ghost invariant = { IsKept };
+}
+
+fn free_slots(alloc: Global) -> Result<Vec<Slot>, AllocError>
+    ensures { IfOk result (λ v. v.items ≡ replicate 16 Free) }
+{
+    let mut slots = Vec::with_capacity(alloc, 16)?;
+    for _ in 0..16u8 {
+        slots.push(Slot::new(alloc)?)?;
+    }
+    Ok(slots)
+}
+
+impl Context {
+    /// The context of an activity that has done nothing yet: all endpoints are free, and the next number is 1.
+    pub fn new(alloc: Global, act: ActId) -> Result<Context, AllocError>
+        ensures { IfOk result (λ c. c ≡ new_context act) }
+    {
+        let slots = free_slots(alloc)?;
+        let flying = Vec::with_capacity(alloc, WINDOW)?;
+        Ok(Context {
+            act,
+            slots,
+            flying,
+            next: 1,
+        })
+    }
+
+    /// Its activity.
+    pub fn act(&self) -> ActId
+        ensures { result ≡ self.now.act }
+    {
+        self.act
+    }
+
+    /// The number of its next flight.
+    pub fn next_number(&self) -> u32
+        ensures { result ≡ self.now.next }
+    {
+        self.next
+    }
+
+    /// Its commands that fly, in the order of their numbers.
+    pub fn flying(&self) -> &[Flying]
+        ensures { result.now ≡ self.now.flying }
+    {
+        self.flying.as_slice()
+    }
+
+    /// The record of an endpoint.
+    pub fn endpoint(&self, ep: EpId) -> &Record
+        ensures { endpoint_of result.now ≡ endpoint self.now ep }
+    {
+        self.slots[ep.number() as usize].occupant()
+    }
+
+    /// The oldest unread message of an endpoint. None exactly where it has no receive record, or none is unread there.
+    pub fn front(&self, ep: EpId) -> Option<&Message>
+        ensures { option_copied result ≡ oldest_at (endpoint self.now ep) }
+    {
+        self.slots[ep.number() as usize].front()
+    }
+
+    /// The fetched message of this token, marked or not. None exactly where the endpoint has no receive record, or no
+    /// message of this token is fetched there.
+    pub fn fetched(&self, ep: EpId, token: u32) -> Option<&Message>
+        ensures { option_copied result ≡ fetched_message_at token (endpoint self.now ep) }
+    {
+        self.slots[ep.number() as usize].fetched(token)
+    }
+
+    /// Whether as many commands fly as may.
+    pub fn busy(&self) -> bool
+        ensures { result ≡ is_busy self.now }
+    {
+        self.flying.len() >= WINDOW
+    }
+
+    /// The name of its next flight.
+    fn next_id(&self) -> FlightId
+        ensures { result ≡ next_id self.now }
+    {
+        FlightId {
+            issuer: self.act.number(),
+            number: self.next,
+        }
+    }
+
+    /// One more command flies.
+    fn launch(&mut self, kind: Kind, ep: EpId, token: u32)
+        requires room { is_busy self.old ≡ false }
+        requires number { self.old.next < 4294967295 }
+        ensures { self.new ≡ launched self.old (kind_of kind) ep token }
+    {
+        let number = self.next;
+        self.next += 1;
+        match self.flying.push(Flying::new(number, kind, ep, token)) {
+            Ok(()) => {}
+            Err(_) => unreachable!(),
+        }
+    }
+}

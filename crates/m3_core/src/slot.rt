@@ -1,0 +1,165 @@
+//! One endpoint of a context.
+
+ghost use Rattle.std.specs.Prelude.{◌≡◌, ℕ, ◌<◌, ◌↔◌, true, false, IsTrue, IsSome, IfOk, None, Some, length, option_copied};
+ghost use Rattle.m3_base.specs.Context.{Free, opened};
+ghost use Rattle.m3_base.specs.Issue.{live_receive};
+ghost use Rattle.m3_base.specs.Land.{grant_of, is_closing, closed_at};
+ghost use Rattle.m3_base.specs.Fits.{is_form, is_free};
+ghost use Rattle.m3_endpoint.specs.Records.{endpoint_of};
+
+mod commands;
+mod packets;
+
+use m3_base::ids::{ActId, EpId, GrantId};
+use m3_base::packet::Fresh;
+use m3_endpoint::memory::MemEp;
+use m3_endpoint::receive::ReceiveEp;
+use m3_endpoint::record_kind::Record;
+use m3_endpoint::send::SendEp;
+use std::alloc::{AllocError, Global};
+use std::marker::Model;
+use std::mem;
+
+/// Where a send goes, and what its header takes from the record.
+#[derive(Clone, Copy, Debug, Drop)]
+pub struct Target {
+    pub to: ActId,
+    pub ep: EpId,
+    pub grant: GrantId,
+    pub send: GrantId,
+    pub label: u64,
+}
+
+/// The place in memory of a read or write, and its grant.
+#[derive(Clone, Copy, Debug, Drop)]
+pub struct Place {
+    pub grant: GrantId,
+    pub at: u32,
+}
+
+/// One endpoint. Its receive record is there from the start, so that an Install takes no memory.
+#[derive(Drop)]
+pub struct Slot {
+    occupant: Record,
+    spare: Option<ReceiveEp>,
+}
+
+impl Model for Slot {
+    ghost use Rattle.m3_base.specs.Context.{Endpoint};
+
+    ghost Value = { Endpoint };
+
+    ghost use Rattle.m3_core.specs.SlotView.{slot_endpoint, IsKept};
+
+    ghost view = { slot_endpoint };
+
+    ghost invariant = { IsKept };
+}
+
+impl Slot {
+    /// A free one.
+    pub fn new(alloc: Global) -> Result<Slot, AllocError>
+        ensures { IfOk result (λ s. s ≡ Free) }
+    {
+        let spare = ReceiveEp::new(alloc)?;
+        Ok(Slot {
+            occupant: Record::Free,
+            spare: Some(spare),
+        })
+    }
+
+    /// Its record.
+    pub fn occupant(&self) -> &Record
+        ensures { endpoint_of result.now ≡ self.now }
+    {
+        &self.occupant
+    }
+
+    /// Whether it has no record.
+    pub fn is_free(&self) -> bool
+        ensures { result ≡ is_free self.now }
+    {
+        match &self.occupant {
+            Record::Free => true,
+            _ => false,
+        }
+    }
+
+    /// The grant of its record.
+    pub fn grant(&self) -> Option<GrantId>
+        ensures { result ≡ grant_of self.now }
+    {
+        match &self.occupant {
+            Record::Free => None,
+            Record::Send(r) => Some(r.grant()),
+            Record::Receive(r) => Some(r.grant()),
+            Record::Memory(r) => Some(r.grant()),
+        }
+    }
+
+    /// Whether its record is closing.
+    pub fn is_closing(&self) -> bool
+        ensures { result ≡ is_closing self.now }
+    {
+        match &self.occupant {
+            Record::Free => false,
+            Record::Send(r) => r.closing(),
+            Record::Receive(r) => r.closing(),
+            Record::Memory(r) => r.closing(),
+        }
+    }
+
+    /// The grant of its live receive record.
+    pub fn live_receive(&self) -> Option<GrantId>
+        ensures { result ≡ live_receive self.now }
+    {
+        match &self.occupant {
+            Record::Receive(r) => { if r.closing() { None } else { Some(r.grant()) } }
+            _ => None,
+        }
+    }
+
+    /// A record of this form stands here.
+    pub fn install(&mut self, fresh: &Fresh)
+        requires free { self.old ≡ Free }
+        requires form { IsTrue (is_form fresh.now) }
+        ensures { self.new ≡ opened fresh.now }
+    {
+        match fresh {
+            Fresh::Send { .. } => self.occupant = Record::Send(SendEp::new(fresh)),
+            Fresh::Memory { .. } => self.occupant = Record::Memory(MemEp::new(fresh)),
+            Fresh::Receive { grant, slots, size } => match self.spare.take() {
+                Some(mut r) => {
+                    r.open(*grant, *slots, *size);
+                    self.occupant = Record::Receive(r);
+                }
+                None => unreachable!(),
+            },
+        }
+    }
+
+    /// Its record is gone.
+    pub fn free(&mut self)
+        ensures { self.new ≡ Free }
+    {
+        match mem::replace(&mut self.occupant, Record::Free) {
+            Record::Receive(mut r) => {
+                r.shut();
+                self.spare = Some(r);
+            }
+            _ => {}
+        }
+    }
+
+    /// Its record is closing from now on.
+    pub fn close(&mut self)
+        ensures { self.new ≡ closed_at self.old }
+    {
+        match &mut self.occupant {
+            Record::Free => {}
+            Record::Send(r) => r.close(),
+            Record::Receive(r) => r.close(),
+            Record::Memory(r) => r.close(),
+        }
+    }
+}

@@ -1,0 +1,109 @@
+//! One endpoint's part of what comes for it.
+
+ghost use Rattle.std.specs.Prelude.{◌≡◌, ℕ, ◌<◌, true, false, IsTrue};
+ghost use Rattle.m3_base.specs.Land.{land_refusal, sends_by, more_at, settled};
+ghost use Rattle.m3_base.specs.Fits.{takes_back, is_returned, is_message};
+ghost use Rattle.m3_core.specs.FlyingView.{kind_of};
+ghost use Rattle.m3_core.specs.Slots.{joined_if, replied_at};
+
+use crate::flying::Kind;
+use crate::slot::Slot;
+use m3_base::command::{Answer, Refusal};
+use m3_base::ids::GrantId;
+use m3_base::message::Message;
+use m3_endpoint::record_kind::Record;
+
+impl Slot {
+    /// Why a message to this grant can't land here.
+    pub fn land_refusal(&self, grant: GrantId, message: &Message) -> Option<Refusal>
+        ensures { result ≡ land_refusal grant message.now self.now }
+    {
+        match &self.occupant {
+            Record::Receive(r) => {
+                if r.closing() || r.grant() != grant {
+                    Some(Refusal::Revoked)
+                } else if message.payload.len() > r.size() as usize {
+                    Some(Refusal::TooLarge)
+                } else if r.is_full() {
+                    Some(Refusal::Full)
+                } else {
+                    None
+                }
+            }
+            _ => Some(Refusal::Revoked),
+        }
+    }
+
+    /// The message joins the unread ones, unless it is refused.
+    #[tactic(auto, using(crate::proofs::Sound::joined_sound))]
+    pub fn land(&mut self, grant: GrantId, message: Message) -> Option<Refusal>
+        requires { is_message message ≡ true }
+        ensures answer { result ≡ land_refusal grant message self.old }
+        ensures after { self.new ≡ joined_if result message self.old }
+    {
+        if let Some(why) = self.land_refusal(grant, &message) {
+            return Some(why);
+        }
+        match &mut self.occupant {
+            Record::Receive(r) => match r.deposit(message) {
+                Ok(()) => None,
+                Err(_) => unreachable!(),
+            },
+            _ => unreachable!(),
+        }
+    }
+
+    /// Whether it has a send record of this grant.
+    pub fn sends_by(&self, grant: u32) -> bool
+        ensures { result ≡ sends_by grant self.now }
+    {
+        match &self.occupant {
+            Record::Send(r) => r.grant().number() as u32 == grant,
+            _ => false,
+        }
+    }
+
+    /// Whether a credit that comes back finds room here.
+    pub fn takes_back(&self) -> bool
+        ensures { result ≡ takes_back self.now }
+    {
+        match &self.occupant {
+            Record::Send(r) => r.held() < r.limit(),
+            _ => true,
+        }
+    }
+
+    /// A credit comes back.
+    pub fn give_credit(&mut self)
+        requires { IsTrue (takes_back self.old) }
+        ensures { self.new ≡ more_at self.old }
+    {
+        match &mut self.occupant {
+            Record::Send(r) => r.give_credit(),
+            _ => {}
+        }
+    }
+
+    /// A command of this endpoint ends with this answer.
+    pub fn settle(&mut self, kind: Kind, token: u32, answer: &Answer)
+        requires { IsTrue (is_returned (kind_of kind) answer.now) → IsTrue (takes_back self.old) }
+        ensures { self.new ≡ settled (kind_of kind) token answer.now self.old }
+    {
+        match (kind, answer) {
+            (Kind::Send, Answer::Refused(_)) => self.give_credit(),
+            (Kind::Reply, Answer::Replied) => self.end_reply(token, true),
+            (Kind::Reply, Answer::Refused(_)) => self.end_reply(token, false),
+            _ => {}
+        }
+    }
+
+    #[tactic(auto, using(crate::proofs::Sound::replied_sound))]
+    fn end_reply(&mut self, token: u32, landed: bool)
+        ensures { self.new ≡ replied_at landed token self.old }
+    {
+        let Record::Receive(r) = &mut self.occupant else {
+            return;
+        };
+        r.end_reply(token, landed);
+    }
+}
