@@ -55,20 +55,20 @@ find-put : (a : ℕ) (c d : Context) (cs : List Context) → d.act ≡ a → con
 find-put a c d [] e h = absurd (cc)
 find-put a c d (x ∷ cs) e h = grind (arith, nat_tests, e, h, find-put a c d cs e)
 
-set_there : (es : List Endpoint) (ep g : ℕ) (e : Endpoint) → grant_of (get_or es ep Free) ≡ Some g → get_or (set es ep e) ep Free ≡ e
+pub set_there : (es : List Endpoint) (ep g : ℕ) (e : Endpoint) → grant_of (get_or es ep Free) ≡ Some g → get_or (set es ep e) ep Free ≡ e
 set_there [] ep g e h = absurd (cc)
 set_there (x ∷ es) zero g e h = refl
 set_there (x ∷ es) (suc ep) g e h = set_there es ep g e h
 
-set_grant : (es : List Endpoint) (ep g : ℕ) (e : Endpoint) → grant_of (get_or (set es ep e) ep Free) ≡ Some g → grant_of e ≡ Some g
+pub set_grant : (es : List Endpoint) (ep g : ℕ) (e : Endpoint) → grant_of (get_or (set es ep e) ep Free) ≡ Some g → grant_of e ≡ Some g
 set_grant [] ep g e h = absurd (cc)
 set_grant (x ∷ es) zero g e h = h
 set_grant (x ∷ es) (suc ep) g e h = set_grant es ep g e h
 
-settled_grant : (k : Kind) (t : ℕ) (answer : Answer) (e : Endpoint) → grant_of (settled k t answer e) ≡ grant_of e
+pub settled_grant : (k : Kind) (t : ℕ) (answer : Answer) (e : Endpoint) → grant_of (settled k t answer e) ≡ grant_of e
 settled_grant k t answer e = grind arith
 
-live_grant : (g : ℕ) (e : Endpoint) → has_live g e ≡ true → grant_of e ≡ Some g
+pub live_grant : (g : ℕ) (e : Endpoint) → has_live g e ≡ true → grant_of e ≡ Some g
 live_grant g Free h = absurd (cc)
 live_grant g (Sends r) h = grind (arith, nat_tests, h)
 live_grant g (Receives r) h = grind (arith, nat_tests, h)
