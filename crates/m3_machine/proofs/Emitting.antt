@@ -1,0 +1,123 @@
+-- What is emitted where a packet arrived: the answer, and the Closed of a grant.
+use Rattle.std.proofs.Common.{◌≡◌, ◌≢◌, ℕ, zero, suc, ◌+◌, ◌*◌, ◌<◌, ◌≤◌, Bool, true, false, cond, List, [], ◌∷◌, ◌++◌, Some, None, refl, sym, subst, ◌∙◌, ap, arith, set, get_or, length, map, Option, ◌⊎◌, inl, inr}
+use Rattle.std.specs.Prelude.{if◌then◌else◌, ◌==◌, not, ◌&&◌, ◌||◌, is_some}
+use Rattle.std.proofs.lemmas.Bool.Decides.{nat_tests}
+use Rattle.m3_base.specs.declared.ids.FlightId.{FlightId}
+use Rattle.m3_base.specs.declared.packet.Packet.{Packet}
+use Rattle.m3_base.specs.Keyed as keyed
+use Rattle.m3_base.specs.Flight.{name_of, flight, new_flight}
+use Rattle.m3_base.specs.State.{Grant, State, grant_in, is_done, same_act}
+use Rattle.m3_base.specs.State as ideal
+use Rattle.m3_base.specs.Steps.{with_packet}
+use Rattle.m3_base.specs.Places as places
+use Rattle.m3_base.specs.Places.{Places, Actor, target, home_in, actor_act, same_actor, push_answer, push_closed}
+use Rattle.m3_machine.specs.Parts.{Home, Site, home_act, home_of, tile_in, tile_of, tile_for, Parcel, Data, Closed, data_out, closed_out, answer_tile}
+use Rattle.m3_machine.specs.Naming.{is_home, is_named}
+use Rattle.m3_machine.specs.Kernel.{is_under_close}
+use Rattle.m3_machine.specs.Machine.{Machine, pushed, pushed_all}
+use Rattle.m3_machine.specs.At.{all_packets, all_closed, closed_from, at, token, actor_in, places_of}
+use Rattle.m3_machine.specs.Sound.{IsSetup, GoesTo, IsShut, is_open, IsSound}
+use Rattle.m3_machine.proofs.Pushed.{longer_places, walks_elsewhere, sending_state, sending_sound, telling_state, telling_sound, telling_closed}
+use Rattle.m3_machine.proofs.Arriving.{grants_after, name_in}
+use Rattle.m3_machine.proofs.Arrivals.{AnswerOk}
+use Rattle.m3_machine.proofs.Named.{NamedIf}
+use Rattle.m3_machine.proofs.Closings.{closes_one, open_grant}
+
+-- ---- homes
+
+is_there_home : (o : Option Home) → is_some o ≡ true → (y : Home) × (o ≡ Some y)
+is_there_home None e = absurd (cc)
+is_there_home (Some y) e = (y, refl)
+
+-- an activity of the setup lives at a tile from 2 on
+pub home_tile : (h : Site) (a : ℕ) → IsSetup h → is_home h a ≡ true → (2 ≤ tile_of h a) × (tile_of h a < 16)
+home_tile h a setup e =
+    let y = is_there_home (home_of a h) e in
+    let s = setup.tiles a y.0 y.1 in
+    let t : tile_of h a ≡ y.0.tile = ap tile_in y.1 in
+    (subst (λ n. 2 ≤ n) (sym t) s.0, subst (λ n. n < 16) (sym t) s.1)
+
+module _ (m : Machine) where
+  home_test : (b : Bool) (x : Home) (o : Option Actor) (r : Option Home) → home_in o ≡ tile_in r → home_in (cond b (Some (actor_in m x)) o) ≡ tile_in (cond b (Some x) r)
+  home_test true x o r e = refl
+  home_test false x o r e = e
+
+  find_home : (a : ℕ) (xs : List Home) → home_in (keyed.find actor_act same_actor a (map (actor_in m) xs)) ≡ tile_in (keyed.find home_act same_act a xs)
+  find_home a [] = refl
+  find_home a (x ∷ xs) =
+      home_test (a == x.act) x (keyed.find actor_act same_actor a (map (actor_in m) xs)) (keyed.find home_act same_act a xs) (find_home a xs)
+
+-- the places have each activity at its home
+pub home_is : (h : Site) (m : Machine) (a : ℕ) → places.home a (places_of h m) ≡ tile_of h a
+home_is h m a = find_home m a h.homes
+
+-- ---- emits
+
+-- what the machine is once some parcels are emitted: its flights, its grants and its places
+pub record Emits (h : Site) (m n : Machine) (flights : List Packet) (grants : List Grant) (p : Places) : Type 0 where
+  pub sound : IsSound h n
+  pub state : at n ≡ record (at m) { flights = flights; grants = grants }
+  pub places : places_of h n ≡ p
+
+-- the grant that is freed is open, and its Close was sent
+pub record Shuts (gs : List Grant) (g : ℕ) : Type 0 where
+  pub grant : Grant
+  pub found : grant_in gs g ≡ Some grant
+  pub stands : is_open grant.standing ≡ true
+  pub sent : grant.close_sent ≡ true
+
+abbrev pub ShutsIf : List Grant → Option ℕ → Type 0
+ShutsIf gs None = Unit {0}
+ShutsIf gs (Some g) = Shuts gs g
+
+module _ (h : Site) (t : ℕ) (low : 1 ≤ t) (ht : t < 16) where
+  pub emit_answer : (m : Machine) → IsSound h m → (id : FlightId) (o : Option Packet) → AnswerOk id o → NamedIf h o → flight id (all_packets m) ≡ None → is_home h id.issuer ≡ true
+      → Emits h m (pushed_all t (data_out (answer_tile h o) o) m) (with_packet o (at m).flights) (at m).grants (push_answer t (name_in o) (places_of h m))
+  emit_answer m sound id None ok named absent known = record { sound = sound; state = refl; places = refl }
+  emit_answer m sound id (Some q) ok named absent known =
+      let u = tile_for h (target q) in
+      let there : u ≡ tile_of h id.issuer = ap (tile_for h) ok.1 in
+      let hu : u < 16 = subst (λ n. n < 16) (sym there) (home_tile h id.issuer sound.setup known).1 in
+      let gone : flight (name_of q) (all_packets m) ≡ None = subst (λ n. flight n (all_packets m) ≡ None) (sym ok.0) absent in
+      let to : u ≡ places.home (name_of q).issuer (places_of h m) =
+      there ∙ ap (tile_of h) (ap (λ n. n.issuer) (sym ok.0)) ∙ sym (home_is h m (name_of q).issuer) in
+      record {
+        sound = sending_sound h m t u ht hu sound q gone (named, subst (GoesTo h u) (sym ok.1) (inr there)) (walks_elsewhere h m t u ht hu (Data q) sound low);
+        state = sending_state h m t u ht hu sound q gone;
+        places = longer_places h m t u ht hu (Data q) sound.links ∙ ap (λ n. places.pushed t n (places.Data (name_of q)) (places_of h m)) to;
+      }
+
+  under_close : (x : Grant) → is_open x.standing ≡ true → x.close_sent ≡ true → is_under_close x ≡ true
+  under_close x o e = grind (arith, o, e)
+
+  pub emit_closed : (m : Machine) → IsSound h m → (o : Option ℕ) → ShutsIf (at m).grants o
+      → Emits h m (pushed_all t (closed_out o) m) (at m).flights (grants_after o (at m).grants) (push_closed t o (places_of h m))
+  emit_closed m sound None ok = record { sound = sound; state = refl; places = refl }
+  emit_closed m sound (Some g) ok =
+      let o = open_grant (all_closed m) g m.kernel.grants ok.grant ok.found ok.stands in
+      let shut : IsShut (grant_in m.kernel.grants g) = subst IsShut (sym o.1) (under_close ok.grant ok.stands ok.sent) in
+      let n = pushed t (0, Closed g) m in
+      record {
+        sound = telling_sound h m t ht sound g o.0 shut (walks_elsewhere h m t 0 ht (omega arith) (Closed g) sound low);
+        state = telling_state h m t ht sound g o.0 ∙ (λ k. record (at m) { grants = closes_one (all_closed m) (all_closed n) g m.kernel.grants ok.grant (telling_closed h m t ht sound g o.0) ok.found k });
+        places = longer_places h m t 0 ht (omega arith) (Closed g) sound.links;
+      }
+
+  pushed_append : (xs ys : List (ℕ × Parcel)) (m : Machine) → pushed_all t (xs ++ ys) m ≡ pushed_all t ys (pushed_all t xs m)
+  pushed_append [] ys m = refl
+  pushed_append (x ∷ xs) ys m = pushed_append xs ys (pushed t x m)
+
+  pub emit_both : (m : Machine) → IsSound h m → (id : FlightId) (o : Option Packet) (f : Option ℕ) → AnswerOk id o → NamedIf h o → flight id (all_packets m) ≡ None → is_home h id.issuer ≡ true → ShutsIf (at m).grants f
+      → Emits h m (pushed_all t (data_out (answer_tile h o) o ++ closed_out f) m) (with_packet o (at m).flights) (grants_after f (at m).grants) (push_closed t f (push_answer t (name_in o) (places_of h m)))
+  emit_both m sound id o f ok named absent known shut =
+      let n = pushed_all t (data_out (answer_tile h o) o) m in
+      let a = emit_answer m sound id o ok named absent known in
+      let same : (at n).grants ≡ (at m).grants = ap (λ s. s.grants) a.state in
+      let b = emit_closed n a.sound f (subst (λ gs. ShutsIf gs f) (sym same) shut) in
+      let e : Emits h m (pushed_all t (closed_out f) n) (with_packet o (at m).flights) (grants_after f (at m).grants) (push_closed t f (push_answer t (name_in o) (places_of h m))) =
+      record {
+        sound = b.sound;
+        state = b.state ∙ (λ k. record (a.state k) { flights = (a.state k).flights; grants = grants_after f (a.state k).grants });
+        places = b.places ∙ ap (push_closed t f) a.places;
+      } in
+      subst (λ z. Emits h m z (with_packet o (at m).flights) (grants_after f (at m).grants) (push_closed t f (push_answer t (name_in o) (places_of h m)))) (sym (pushed_append (data_out (answer_tile h o) o) (closed_out f) m)) e
