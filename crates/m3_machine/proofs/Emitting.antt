@@ -51,6 +51,16 @@ module _ (m : Machine) where
 pub home_is : (h : Site) (m : Machine) (a : ℕ) → places.home a (places_of h m) ≡ tile_of h a
 home_is h m a = find_home m a h.homes
 
+-- who a packet of the setup's activities is for is one of them
+pub named_target : (h : Site) (q : Packet) (a : ℕ) → is_named h q ≡ true → target q ≡ Some a → is_home h a ≡ true
+named_target h (Packet.Message to ep g m) a n e = let s : to ≡ a = cc in let x : is_home h to ≡ true = grind (arith, n) in subst (λ z. is_home h z ≡ true) s x
+named_target h (Packet.Credit id to g) a n e = let s : to ≡ a = cc in let x : is_home h to ≡ true = grind (arith, n) in subst (λ z. is_home h z ≡ true) s x
+named_target h (Packet.Read id g place buffer) a n e = absurd (cc)
+named_target h (Packet.Write id g place payload) a n e = absurd (cc)
+named_target h (Packet.Answer id answer) a n e = let s : id.issuer ≡ a = cc in let x : is_home h id.issuer ≡ true = grind (arith, n) in subst (λ z. is_home h z ≡ true) s x
+named_target h (Packet.Install id to ep f) a n e = let s : to ≡ a = cc in let x : is_home h to ≡ true = grind (arith, n) in subst (λ z. is_home h z ≡ true) s x
+named_target h (Packet.Close id to ep g) a n e = let s : to ≡ a = cc in let x : is_home h to ≡ true = grind (arith, n) in subst (λ z. is_home h z ≡ true) s x
+
 -- ---- emits
 
 -- what the machine is once some parcels are emitted: its flights, its grants and its places
@@ -71,13 +81,13 @@ ShutsIf gs None = Unit {0}
 ShutsIf gs (Some g) = Shuts gs g
 
 module _ (h : Site) (t : ℕ) (low : 1 ≤ t) (ht : t < 16) where
-  pub emit_answer : (m : Machine) → IsSound h m → (id : FlightId) (o : Option Packet) → AnswerOk id o → NamedIf h o → flight id (all_packets m) ≡ None → is_home h id.issuer ≡ true
+  pub emit_answer : (m : Machine) → IsSound h m → (id : FlightId) (o : Option Packet) → AnswerOk id o → NamedIf h o → flight id (all_packets m) ≡ None
       → Emits h m (pushed_all t (data_out (answer_tile h o) o) m) (with_packet o (at m).flights) (at m).grants (push_answer t (name_in o) (places_of h m))
-  emit_answer m sound id None ok named absent known = record { sound = sound; state = refl; places = refl }
-  emit_answer m sound id (Some q) ok named absent known =
+  emit_answer m sound id None ok named absent = record { sound = sound; state = refl; places = refl }
+  emit_answer m sound id (Some q) ok named absent =
       let u = tile_for h (target q) in
       let there : u ≡ tile_of h id.issuer = ap (tile_for h) ok.1 in
-      let hu : u < 16 = subst (λ n. n < 16) (sym there) (home_tile h id.issuer sound.setup known).1 in
+      let hu : u < 16 = subst (λ n. n < 16) (sym there) (home_tile h id.issuer sound.setup (named_target h q id.issuer named ok.1)).1 in
       let gone : flight (name_of q) (all_packets m) ≡ None = subst (λ n. flight n (all_packets m) ≡ None) (sym ok.0) absent in
       let to : u ≡ places.home (name_of q).issuer (places_of h m) =
       there ∙ ap (tile_of h) (ap (λ n. n.issuer) (sym ok.0)) ∙ sym (home_is h m (name_of q).issuer) in
@@ -107,11 +117,11 @@ module _ (h : Site) (t : ℕ) (low : 1 ≤ t) (ht : t < 16) where
   pushed_append [] ys m = refl
   pushed_append (x ∷ xs) ys m = pushed_append xs ys (pushed t x m)
 
-  pub emit_both : (m : Machine) → IsSound h m → (id : FlightId) (o : Option Packet) (f : Option ℕ) → AnswerOk id o → NamedIf h o → flight id (all_packets m) ≡ None → is_home h id.issuer ≡ true → ShutsIf (at m).grants f
+  pub emit_both : (m : Machine) → IsSound h m → (id : FlightId) (o : Option Packet) (f : Option ℕ) → AnswerOk id o → NamedIf h o → flight id (all_packets m) ≡ None → ShutsIf (at m).grants f
       → Emits h m (pushed_all t (data_out (answer_tile h o) o ++ closed_out f) m) (with_packet o (at m).flights) (grants_after f (at m).grants) (push_closed t f (push_answer t (name_in o) (places_of h m)))
-  emit_both m sound id o f ok named absent known shut =
+  emit_both m sound id o f ok named absent shut =
       let n = pushed_all t (data_out (answer_tile h o) o) m in
-      let a = emit_answer m sound id o ok named absent known in
+      let a = emit_answer m sound id o ok named absent in
       let same : (at n).grants ≡ (at m).grants = ap (λ s. s.grants) a.state in
       let b = emit_closed n a.sound f (subst (λ gs. ShutsIf gs f) (sym same) shut) in
       let e : Emits h m (pushed_all t (closed_out f) n) (with_packet o (at m).flights) (grants_after f (at m).grants) (push_closed t f (push_answer t (name_in o) (places_of h m))) =

@@ -6,6 +6,7 @@ pub mod Memory
 pub mod Machine
 pub mod At
 pub mod Sound
+pub mod Refines
 pub mod Moving
 pub mod Rows
 pub mod Homes

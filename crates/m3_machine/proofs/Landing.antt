@@ -1,0 +1,137 @@
+-- A tile takes data for its current activity.
+use Rattle.std.proofs.Common.{◌≡◌, ◌≢◌, ℕ, zero, suc, ◌+◌, ◌*◌, ◌<◌, ◌≤◌, Bool, true, false, cond, List, [], ◌∷◌, ◌++◌, Some, None, refl, sym, subst, ◌∙◌, ap, arith, append_assoc, set, get_or, length, map, Option, ◌⊎◌, inl, inr}
+use Rattle.std.specs.Prelude.{if◌then◌else◌, ◌==◌, not, ◌&&◌, ◌||◌, is_some}
+use Rattle.std.proofs.lemmas.Bool.Decides.{nat_tests}
+use Rattle.std.proofs.lemmas.List.{map-set, get_or-map}
+use Rattle.m3_base.specs.declared.ids.FlightId.{FlightId}
+use Rattle.m3_base.specs.declared.command.Answer.{Answer}
+use Rattle.m3_base.specs.declared.packet.Packet.{Packet}
+use Rattle.m3_base.specs.declared.event.Event.{Event}
+use Rattle.m3_base.specs.declared.event.Said.{Said}
+use Rattle.m3_base.specs.Keyed as keyed
+use Rattle.m3_base.specs.Flight.{name_of, flight, new_flight}
+use Rattle.m3_base.specs.Context.{Flying, Context, endpoint, with_endpoint}
+use Rattle.m3_base.specs.Land.{grant_of, closed_at, has_live, has_closing, flies_at, flying_at, frees, answered}
+use Rattle.m3_base.specs.State.{Grant, State, grant_in, context_of, put_context, same_act}
+use Rattle.m3_base.specs.Steps.{with_packet}
+use Rattle.m3_base.specs.Arrive.{Arrived, arrive, close_arrives, answer_arrives, settles}
+use Rattle.m3_base.specs.Fits.{fits, fits_answer}
+use Rattle.m3_base.specs.Places as places
+use Rattle.m3_base.specs.Places.{Places, pstep, target, target_of, is_here, came, push_answer, push_closed}
+use Rattle.m3_base.proofs.Keyed.{find-replaced_other, find-replaced_same}
+use Rattle.m3_merge.specs.Parts.{Each}
+use Rattle.m3_merge.proofs.Stamps.{each_back}
+use Rattle.m3_machine.specs.Parts.{Site, Home, tile_of, Heard, heard_of, Parcel, Data, Stay, Tile, data_out, closed_out, answer_tile, says, dropped}
+use Rattle.m3_machine.specs.Naming.{is_home, is_named, is_named_context}
+use Rattle.m3_machine.specs.Tile.{stay_act, stay_of, with_stay, with_current, hearing, hears_all, heard_by, take_arrived, take_here, take_data, tile_take, act_in, arrive_named}
+use Rattle.m3_machine.specs.Machine.{Machine, Is_tile, empty_tile, tile_at, link_at, with_link, with_part, pushed_all, mstep, done_by, of_tile}
+use Rattle.m3_machine.specs.At.{each, on_links, as_list, here, away, contexts_in, all_contexts, all_packets, all_closed, at, token, current_act, places_of}
+use Rattle.m3_machine.specs.Sound.{IsThere, HeldThere, Hypotheses, IsSound}
+use Rattle.m3_machine.specs.Refines.{as_places, Refined}
+use Rattle.m3_machine.proofs.Inserts.{Inserts, around_set}
+use Rattle.m3_machine.proofs.Moved.{length-set}
+use Rattle.m3_machine.proofs.Switching.{apart_inserts}
+use Rattle.m3_machine.proofs.Saving.{context_at}
+use Rattle.m3_machine.proofs.Bouncing.{take_step}
+use Rattle.m3_machine.proofs.Sets.{is_link}
+use Rattle.m3_machine.proofs.Popped.{popped_absent, popped_apart, popped_flights, popped_flies, popped_state, popped_places, popped_ok, popped_sound}
+use Rattle.m3_machine.proofs.Changed.{Alike, alike-itself, SameStay}
+use Rattle.m3_machine.proofs.Running.{running_state, running_places, running_sound}
+use Rattle.m3_machine.proofs.Arriving.{after_arrival, came_as, name_in, grants_after, ComesAs, arrives_as}
+use Rattle.m3_machine.proofs.Arrivals.{AnswerOk, FreedBy, KeptBy, arrive_keeps}
+use Rattle.m3_machine.proofs.Named.{NamedIf, NamedBy, arrive_names}
+use Rattle.m3_machine.proofs.Emitting.{ShutsIf, Shuts, Emits, emit_both}
+
+-- ---- who is current
+
+module _ (m : Machine) (t : ℕ) (ht : t < length m.tiles) (c : Context) (e : (tile_at t m).current ≡ Some c) where
+  current_inserts : (base : List Context) × Inserts c base (all_contexts m)
+  current_inserts =
+      let r = around_set here (empty_tile t) m.tiles t ht in
+      let others = each away m.kernel.seats ++ on_links contexts_in m.links in
+      let b = r.back ++ others in
+      (r.front ++ b,
+      record {
+        front = r.front;
+        back = b;
+        without = refl;
+        whole = ap (λ l. l ++ others) (r.here ∙ ap (λ o. r.front ++ (as_list o ++ r.back)) e) ∙ append_assoc r.front (c ∷ r.back) others;
+      })
+
+  pub current_found : {h : Site} → IsSound h m → context_of c.act (at m).contexts ≡ Some c
+  current_found sound =
+      let i = current_inserts in
+      context_at c i.0 (all_contexts m) i.1 (apart_inserts c i.0 (all_contexts m) i.1 sound.acts)
+
+  pub current_each : (P : Context → Type 0) → Each P (all_contexts m) → P c
+  current_each P h = let i = current_inserts in (each_back P i.1.front (c ∷ i.1.back) (subst (Each P) i.1.whole h)).0
+
+-- ---- what its program hears
+
+heard_current : (xs : List Heard) (t : Tile) (o : Option Stay) → (heard_by xs t o).current ≡ t.current
+heard_current xs t None = refl
+heard_current xs t (Some y) = refl
+
+heard_tile : (xs : List Heard) (t : Tile) (o : Option Stay) → (heard_by xs t o).tile ≡ t.tile
+heard_tile xs t None = refl
+heard_tile xs t (Some y) = refl
+
+key_by : (a : ℕ) (z y : Stay) (o : Option Stay) (b : Bool) → (a == z.act) ≡ b → (o ≡ Some y → y.act ≡ a) → cond b (Some z) o ≡ Some y → y.act ≡ a
+key_by a z y o true d ih e = let k : z ≡ y = cc in ap (λ w. w.act) (sym k) ∙ (let n : z.act ≡ a = grind (arith, nat_tests, d) in n)
+key_by a z y o false d ih e = ih e
+
+pub stay_key : (a : ℕ) (ys : List Stay) (y : Stay) → keyed.find stay_act same_act a ys ≡ Some y → y.act ≡ a
+stay_key a [] y e = absurd (cc)
+stay_key a (z ∷ ys) y e = key_by a z y (keyed.find stay_act same_act a ys) (a == z.act) refl (stay_key a ys y) e
+
+joins : (a b c : ℕ) → same_act a c ≡ true → same_act b c ≡ true → same_act a b ≡ true
+joins a b c p q = grind (arith, nat_tests)
+
+itself : (a : ℕ) → same_act a a ≡ true
+itself a = grind (arith, nat_tests)
+
+-- a stay in place of one like it
+pub stay_alike : (t : Tile) (y z : Stay) → stay_of y.act t ≡ Some y → z.act ≡ y.act → SameStay y z → (a : ℕ) → Alike (stay_of a t) (stay_of a (with_stay z t))
+stay_alike t y z found same like a = by_test (a == z.act) refl
+  where
+    by_test : (b : Bool) → (a == z.act) ≡ b → Alike (stay_of a t) (stay_of a (with_stay z t))
+    by_test false e =
+        subst (Alike (stay_of a t)) (sym (find-replaced_other stay_act same_act same_act a z t.stays joins e)) (alike-itself (stay_of a t))
+    by_test true e =
+        let k : a ≡ z.act = grind (arith, nat_tests, e) in
+        let old : stay_of z.act t ≡ Some y = ap (λ n. stay_of n t) same ∙ found in
+        let new : stay_of z.act (with_stay z t) ≡ Some z = find-replaced_same stay_act same_act same_act z y t.stays (itself z.act) old in
+        let both : Alike (stay_of z.act t) (stay_of z.act (with_stay z t)) = subst (λ o. Alike o (stay_of z.act (with_stay z t))) (sym old) (subst (Alike (Some y)) (sym new) like) in
+        subst (λ n. Alike (stay_of n t) (stay_of n (with_stay z t))) (sym k) both
+
+heard_alike : (xs : List Heard) (t : Tile) (b : ℕ) (o : Option Stay) → stay_of b t ≡ o → (a : ℕ) → Alike (stay_of a t) (stay_of a (heard_by xs t o))
+heard_alike xs t b None e a = alike-itself (stay_of a t)
+heard_alike xs t b (Some y) e a =
+    stay_alike t y (hearing xs y) (ap (λ n. stay_of n t) (stay_key b t.stays y e) ∙ e) refl (record { pending = refl; ended = refl; moves = refl; yield_sent = refl }) a
+
+-- ---- what fits arrives
+
+answer_there : (c : Context) (id : FlightId) (answer : Answer) (o : Option Flying) → fits_answer c answer o ≡ true → IsThere (answer_arrives c id answer o)
+answer_there c id answer None e = absurd (cc)
+answer_there c id answer (Some f) e = tt
+
+close_there : (c : Context) (id : FlightId) (ep g : ℕ) (d : Context) (b : Bool) → IsThere (close_arrives c id ep g d b)
+close_there c id ep g d true = tt
+close_there c id ep g d false = tt
+
+last_of : (a b : Bool) → a && b ≡ true → b ≡ true
+last_of true b e = e
+last_of false b e = absurd (cc)
+
+pub fits_arrives : (c : Context) (p : Packet) → fits c p ≡ true → IsThere (arrive c p)
+fits_arrives c (Packet.Message to ep g m) e = tt
+fits_arrives c (Packet.Credit id to g) e = tt
+fits_arrives c (Packet.Read id g place buffer) e = absurd (cc)
+fits_arrives c (Packet.Write id g place payload) e = absurd (cc)
+fits_arrives c (Packet.Answer id answer) e =
+    answer_there c id answer (flying_at id.number c.flying) (let x : fits_answer c answer (flying_at id.number c.flying) ≡ true = grind (arith, e) in x)
+fits_arrives c (Packet.Install id to ep f) e = tt
+fits_arrives c (Packet.Close id to ep g) e =
+    let live : has_live g (endpoint c ep) ≡ true = grind (arith, e) in
+    subst (λ b. IsThere (cond b (close_arrives c id ep g (with_endpoint c ep (closed_at (endpoint c ep))) (flies_at ep c)) None)) (sym live)
+    (close_there c id ep g (with_endpoint c ep (closed_at (endpoint c ep))) (flies_at ep c))
