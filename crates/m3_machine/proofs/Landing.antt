@@ -49,14 +49,15 @@ module _ (m : Machine) (t : ℕ) (ht : t < length m.tiles) (c : Context) (e : (t
   current_inserts =
       let r = around_set here (empty_tile t) m.tiles t ht in
       let others = each away m.kernel.seats ++ on_links contexts_in m.links in
-      let b = r.back ++ others in
-      (r.front ++ b,
-      record {
-        front = r.front;
-        back = b;
-        without = refl;
-        whole = ap (λ l. l ++ others) (r.here ∙ ap (λ o. r.front ++ (as_list o ++ r.back)) e) ∙ append_assoc r.front (c ∷ r.back) others;
-      })
+      let b = r.back ++ others in (
+        r.front ++ b,
+        record {
+          front = r.front;
+          back = b;
+          without = refl;
+          whole = ap (λ l. l ++ others) (r.here ∙ ap (λ o. r.front ++ (as_list o ++ r.back)) e) ∙ append_assoc r.front (c ∷ r.back) others;
+        },
+      )
 
   pub current_found : {h : Site} → IsSound h m → context_of c.act (at m).contexts ≡ Some c
   current_found sound =
@@ -68,11 +69,11 @@ module _ (m : Machine) (t : ℕ) (ht : t < length m.tiles) (c : Context) (e : (t
 
 -- ---- what its program hears
 
-heard_current : (xs : List Heard) (t : Tile) (o : Option Stay) → (heard_by xs t o).current ≡ t.current
+pub heard_current : (xs : List Heard) (t : Tile) (o : Option Stay) → (heard_by xs t o).current ≡ t.current
 heard_current xs t None = refl
 heard_current xs t (Some y) = refl
 
-heard_tile : (xs : List Heard) (t : Tile) (o : Option Stay) → (heard_by xs t o).tile ≡ t.tile
+pub heard_tile : (xs : List Heard) (t : Tile) (o : Option Stay) → (heard_by xs t o).tile ≡ t.tile
 heard_tile xs t None = refl
 heard_tile xs t (Some y) = refl
 
@@ -104,7 +105,7 @@ stay_alike t y z found same like a = by_test (a == z.act) refl
         let both : Alike (stay_of z.act t) (stay_of z.act (with_stay z t)) = subst (λ o. Alike o (stay_of z.act (with_stay z t))) (sym old) (subst (Alike (Some y)) (sym new) like) in
         subst (λ n. Alike (stay_of n t) (stay_of n (with_stay z t))) (sym k) both
 
-heard_alike : (xs : List Heard) (t : Tile) (b : ℕ) (o : Option Stay) → stay_of b t ≡ o → (a : ℕ) → Alike (stay_of a t) (stay_of a (heard_by xs t o))
+pub heard_alike : (xs : List Heard) (t : Tile) (b : ℕ) (o : Option Stay) → stay_of b t ≡ o → (a : ℕ) → Alike (stay_of a t) (stay_of a (heard_by xs t o))
 heard_alike xs t b None e a = alike-itself (stay_of a t)
 heard_alike xs t b (Some y) e a =
     stay_alike t y (hearing xs y) (ap (λ n. stay_of n t) (stay_key b t.stays y e) ∙ e) refl (record { pending = refl; ended = refl; moves = refl; yield_sent = refl }) a

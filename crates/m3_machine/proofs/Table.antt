@@ -30,13 +30,13 @@ module _ (table : List (Option Context)) (cs new : List Context) (has : HasConte
     count = length-set table c.act (Some c) ∙ has.count;
     same = λ a.
         ⊎_elim
-          (λ (e : a ≡ c.act).
-            ap (λ b. get_or (set table c.act (Some c)) b None) e
-              ∙ get_or-set_same table c.act (Some c) None (omega (arith, has.count))
-              ∙ sym same
-              ∙ ap (λ b. context_of b new) (sym e))
-          (λ (ne : a ≡ c.act → ⊥). get_or-set_other table c.act a (Some c) None ne ∙ has.same a ∙ sym (others a ne))
-          (cases_eq a c.act);
+        (λ (e : a ≡ c.act).
+        ap (λ b. get_or (set table c.act (Some c)) b None) e
+        ∙ get_or-set_same table c.act (Some c) None (omega (arith, has.count))
+        ∙ sym same
+        ∙ ap (λ b. context_of b new) (sym e))
+        (λ (ne : a ≡ c.act → ⊥). get_or-set_other table c.act a (Some c) None ne ∙ has.same a ∙ sym (others a ne))
+        (cases_eq a c.act);
   }
 
 pub has_new : (table : List (Option Context)) (cs : List Context) → HasContexts table cs → (c : Context) → c.act < 64 → get_or table c.act None ≡ None → HasContexts (set table c.act (Some c)) (new_context_in c cs)
