@@ -22,15 +22,15 @@ use Rattle.m3_machine.specs.Naming.{is_home, is_named, acts_in, acts_in_form, is
 -- ---- lists of endpoints
 
 module _ (h : Site) where
-  abbrev AllAt : List Endpoint → Type 0
+  abbrev pub AllAt : List Endpoint → Type 0
   AllAt es = list_all (names_at h) es ≡ true
 
-  all_get : (es : List Endpoint) (ep : ℕ) → AllAt es → names_at h (get_or es ep Free) ≡ true
+  pub all_get : (es : List Endpoint) (ep : ℕ) → AllAt es → names_at h (get_or es ep Free) ≡ true
   all_get [] ep a = refl
   all_get (e ∷ es) zero a = grind (arith, a)
   all_get (e ∷ es) (suc ep) a = all_get es ep (grind (arith, a))
 
-  all_set : (es : List Endpoint) (ep : ℕ) (e : Endpoint) → AllAt es → names_at h e ≡ true → AllAt (set es ep e)
+  pub all_set : (es : List Endpoint) (ep : ℕ) (e : Endpoint) → AllAt es → names_at h e ≡ true → AllAt (set es ep e)
   all_set [] ep e a n = refl
   all_set (x ∷ es) zero e a n = grind (arith, a, n)
   all_set (x ∷ es) (suc ep) e a n = let r = all_set es ep e (grind (arith, a)) n in grind (arith, a, r)
@@ -45,15 +45,15 @@ module _ (h : Site) where
   all_more [] m a n = grind (arith, n)
   all_more (x ∷ ms) m a n = let r = all_more ms m (grind (arith, a)) n in grind (arith, a, r)
 
-  fetched_more : (fs : List Fetched) (f : Fetched) → list_all (is_fetched_from_home h) fs ≡ true → is_fetched_from_home h f ≡ true → list_all (is_fetched_from_home h) (fs ++ f ∷ []) ≡ true
+  pub fetched_more : (fs : List Fetched) (f : Fetched) → list_all (is_fetched_from_home h) fs ≡ true → is_fetched_from_home h f ≡ true → list_all (is_fetched_from_home h) (fs ++ f ∷ []) ≡ true
   fetched_more [] f a n = grind (arith, n)
   fetched_more (x ∷ fs) f a n = let r = fetched_more fs f (grind (arith, a)) n in grind (arith, a, r)
 
-  fetched_less : (t : ℕ) (fs : List Fetched) → list_all (is_fetched_from_home h) fs ≡ true → list_all (is_fetched_from_home h) (without_token t fs) ≡ true
+  pub fetched_less : (t : ℕ) (fs : List Fetched) → list_all (is_fetched_from_home h) fs ≡ true → list_all (is_fetched_from_home h) (without_token t fs) ≡ true
   fetched_less t [] a = refl
   fetched_less t (f ∷ fs) a = let r = fetched_less t fs in grind (arith, a, r)
 
-  fetched_marked : (b : Bool) (t : ℕ) (fs : List Fetched) → list_all (is_fetched_from_home h) fs ≡ true → list_all (is_fetched_from_home h) (with_mark b t fs) ≡ true
+  pub fetched_marked : (b : Bool) (t : ℕ) (fs : List Fetched) → list_all (is_fetched_from_home h) fs ≡ true → list_all (is_fetched_from_home h) (with_mark b t fs) ≡ true
   fetched_marked b t [] a = refl
   fetched_marked b t (f ∷ fs) a = let r = fetched_marked b t fs in grind (arith, a, r)
 
