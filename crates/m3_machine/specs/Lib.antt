@@ -11,5 +11,6 @@ pub mod Moving
 pub mod Rows
 pub mod Homes
 pub mod Links
+pub mod Progress
 pub mod Aims
 pub mod Table

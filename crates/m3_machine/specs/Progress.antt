@@ -1,0 +1,42 @@
+-- How far the contexts of an opening have come.
+use Rattle.std.specs.Prelude.{◌≡◌, ℕ, Bool, true, false, List, length, Option, Some, None, is_some, slice_index_or}
+use Rattle.std.specs.List.{list_any}
+use Rattle.m3_base.specs.declared.packet.Fresh.{Fresh}
+use Rattle.m3_base.specs.declared.setup_line.SetupLine.{SetupLine}
+use Rattle.m3_base.specs.Context.{Endpoint, Free, Context, endpoint, with_endpoint, opened}
+use Rattle.m3_base.specs.Fits.{is_form}
+use Rattle.m3_base.specs.State.{State, Grant, context_of, grant_in}
+use Rattle.m3_base.specs.Grants.{holds_at}
+use Rattle.m3_base.specs.Opening.{with_lines, opening}
+use Rattle.m3_base.specs.Setup.{Facts, SetupValue, AllKept, all_noted, facts_of, home_in}
+use Rattle.m3_machine.specs.Table.{HasContexts}
+
+-- an endpoint is free where no grant is held there
+abbrev pub AreFree : State → Type 0
+AreFree s = (a ep : ℕ) (c : Context) → context_of a s.contexts ≡ Some c → list_any (holds_at a ep) s.grants ≡ false → endpoint c ep ≡ Free
+
+abbrev pub AreForms : List Grant → Type 0
+AreForms gs = (g : ℕ) (x : Grant) → grant_in gs g ≡ Some x → is_form x.fresh ≡ true
+
+-- the table has the contexts that the lines but these leave, and so many grants were installed
+pub record Progress (setup : SetupValue) (table : List (Option Context)) (n : ℕ) (left : List SetupLine) : Type 0 where
+  pub state : State
+  pub facts : Facts
+  pub grants : facts.grants ≡ state.grants
+  pub room : length facts.homes ≡ 64
+  pub homes : (a : ℕ) → is_some (home_in facts.homes a) ≡ is_some (context_of a state.contexts)
+  pub kept : AllKept left facts
+  pub opens : with_lines state left ≡ opening setup.memory setup.lines
+  pub ends : all_noted left facts ≡ facts_of setup
+  pub has : HasContexts table state.contexts
+  pub count : n ≡ length facts.grants
+  pub free : AreFree state
+  pub forms : AreForms facts.grants
+  pub memory : facts.memory ≡ setup.memory
+
+-- an activity is there, with a free endpoint for a record in its ranges
+pub record CanInstall (table : List (Option Context)) (a ep : ℕ) (fresh : Fresh) : Type 0 where
+  pub context : Context
+  pub there : slice_index_or table a None ≡ Some context
+  pub free : endpoint context ep ≡ Free
+  pub form : is_form fresh ≡ true
