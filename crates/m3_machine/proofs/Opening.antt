@@ -1,8 +1,11 @@
 -- Each line of a setup takes the table of contexts one step on.
-use Rattle.std.proofs.Common.{◌≡◌, ◌≢◌, ℕ, ◌+◌, ◌-◌, ◌<◌, ◌≤◌, Bool, true, false, List, [], ◌∷◌, ◌++◌, length, get_or, set, Option, Some, None, refl, sym, ◌∙◌, ap, subst, arith, replicate, inl, inr, ⊎_elim}
+use Rattle.std.proofs.Common.{◌≡◌, ◌≢◌, ℕ, ◌+◌, ◌-◌, ◌<◌, ◌≤◌, Bool, true, false, List, [], ◌∷◌, ◌++◌, length, length-append, get_or, set, Option, Some, None, refl, sym, ◌∙◌, ap, subst, arith, replicate, inl, inr, ⊎_elim}
 use Rattle.std.specs.Prelude.{zero, suc, if◌then◌else◌, ◌==◌, is_some, is_none, not, ◌||◌, ◌&&◌, nat_le, nat_lt, slice_get, IsTrue, ◌⊎◌}
 use Rattle.std.specs.List.{list_any}
 use Rattle.std.proofs.lemmas.Bool.Decides.{nat_tests}
+use Rattle.std.proofs.lemmas.Bool.{cases_eq, cases_lt}
+use Rattle.std.proofs.lemmas.List.{get_or-replicate, get_or_past, length-replicate, get_or-set_same, get_or-set_other}
+use Rattle.m3_base.specs.Obeys.{Declared, Obeys}
 use Rattle.m3_base.specs.declared.order.GrantLine.{GrantLine}
 use Rattle.m3_base.specs.declared.packet.Perm.{Perm}
 use Rattle.m3_base.specs.declared.packet.Fresh.{Fresh}
@@ -23,7 +26,7 @@ use Rattle.m3_machine.proofs.Table.{has_new, has_put, found_new, found_beside, f
 -- ---- what a grant line that isn't refused says
 
 -- a parent that isn't done is the parent
-form_undone : (g : ℕ) (line : GrantLine) (p : Option Grant) (f : Fresh) → form g line (undone p) ≡ Some f → form g line p ≡ Some f
+pub form_undone : (g : ℕ) (line : GrantLine) (p : Option Grant) (f : Fresh) → form g line (undone p) ≡ Some f → form g line p ≡ Some f
 form_undone g (GrantLine.Recv a e slots size) p f h = h
 form_undone g (GrantLine.Range a e at len perm) p f h = h
 form_undone g (GrantLine.Send a e of label credits) None f h = absurd (cc)
@@ -31,11 +34,11 @@ form_undone g (GrantLine.Send a e of label credits) (Some x) f h = grind (arith,
 form_undone g (GrantLine.Part a e of at len perm) None f h = absurd (cc)
 form_undone g (GrantLine.Part a e of at len perm) (Some x) f h = grind (arith, h)
 
-some_form : (o : Option Fresh) → is_none o ≡ false → (f : Fresh) × (o ≡ Some f)
+pub some_form : (o : Option Fresh) → is_none o ≡ false → (f : Fresh) × (o ≡ Some f)
 some_form None h = absurd (cc)
 some_form (Some f) h = (f, refl)
 
-has_form : (memory : ℕ) (gs : List Grant) (line : GrantLine) → make_refusal memory gs line ≡ None → is_none (form (length gs + 1) line (undone (parent_in gs (parent_of line)))) ≡ false
+pub has_form : (memory : ℕ) (gs : List Grant) (line : GrantLine) → make_refusal memory gs line ≡ None → is_none (form (length gs + 1) line (undone (parent_in gs (parent_of line)))) ≡ false
 has_form memory gs line e = grind (arith, e)
 
 is_inside : (memory : ℕ) (gs : List Grant) (line : GrantLine) → make_refusal memory gs line ≡ None → is_outside memory line (fresh_of (undone (parent_in gs (parent_of line)))) ≡ false
@@ -142,6 +145,183 @@ then_free : (a b : Bool) → (a || b) ≡ false → b ≡ false
 then_free false b e = e
 then_free true b e = absurd (cc)
 
+one_longer : (gs : List Grant) (x : Grant) → length (gs ++ x ∷ []) ≡ length gs + 1
+one_longer gs x = length-append gs (x ∷ [])
+
 -- the endpoint isn't the one that the new grant has
 other_ep : (ep : ℕ) (line : GrantLine) (f : Fresh) → holds_at (holder line) ep (new_grant line f) ≡ false → ep ≢ holder_ep line
 other_ep ep line f h e = grind (arith, nat_tests, h, e)
+
+-- ---- one line
+
+some_is : (c d : Context) → Some c ≡ Some d → c ≡ d
+some_is c d e = cc
+
+no_record : (ep : ℕ) → get_or (replicate 16 Free) ep Free ≡ Free
+no_record ep = ⊎_elim (λ low. get_or-replicate 16 ep Free Free low) (λ high. get_or_past (replicate 16 Free) ep Free (omega (arith, length-replicate 16 Free, high))) (cases_lt ep 16)
+
+module _ (setup : SetupValue) (table : List (Option Context)) (n : ℕ) where
+  pub tied : (left : List SetupLine) (p : Progress setup table n left) → Ties p.facts p.state
+  tied left p = record { grants = p.grants; room = p.room; homes = p.homes }
+
+  module _ (a t : ℕ) (left : List SetupLine) (p : Progress setup table n (SetupLine.Act a t ∷ left)) where
+    is_new : Obeys p.state (SetupLine.Act a t)
+    is_new = obeys p.facts p.state (SetupLine.Act a t) (tied _ p) p.kept.0 p.kept.1.0
+
+    fresh_ties : Ties (noted (SetupLine.Act a t) p.facts) (with_line p.state (SetupLine.Act a t))
+    fresh_ties = ties p.facts p.state (SetupLine.Act a t) (tied _ p) p.kept.1.0
+
+    act_free : AreFree (with_line p.state (SetupLine.Act a t))
+    act_free b ep c there none =
+        ⊎_elim
+          (λ (e : b ≡ a).
+            let is : new_context a ≡ c = some_is (new_context a) c (sym (found_new a (new_context a) p.state.contexts is_new.0 refl) ∙ ap (λ x. context_of x (new_context_in (new_context a) p.state.contexts)) (sym e) ∙ there) in
+            subst (λ (x : Context). endpoint x ep ≡ Free) is (no_record ep))
+          (λ (ne : b ≡ a → ⊥). p.free b ep c (sym (found_beside b (new_context a) p.state.contexts ne) ∙ there) none)
+          (cases_eq b a)
+
+    pub act_step : Progress setup (set table a (Some (new_context a))) n left
+    act_step = record {
+      state = with_line p.state (SetupLine.Act a t);
+      facts = noted (SetupLine.Act a t) p.facts;
+      grants = fresh_ties.grants;
+      room = fresh_ties.room;
+      homes = fresh_ties.homes;
+      kept = p.kept.1.1;
+      opens = p.opens;
+      ends = p.ends;
+      has = has_new table p.state.contexts p.has (new_context a) p.kept.1.0 (p.has.same a ∙ is_new.0);
+      count = p.count;
+      free = act_free;
+      forms = p.forms;
+      memory = p.memory;
+    }
+
+  module _ (line : GrantLine) (left : List SetupLine) (p : Progress setup table n (SetupLine.Grant line ∷ left)) (low : setup.memory ≤ 1048576) where
+    pub obeyed : Obeys p.state (SetupLine.Grant line)
+    obeyed = obeys p.facts p.state (SetupLine.Grant line) (tied _ p) p.kept.0 p.kept.1.0
+
+    next_ties : Ties (noted (SetupLine.Grant line) p.facts) (with_line p.state (SetupLine.Grant line))
+    next_ties = ties p.facts p.state (SetupLine.Grant line) (tied _ p) p.kept.1.0
+
+    pub allowed : make_refusal p.facts.memory p.facts.grants line ≡ None
+    allowed = grant_allowed p.facts line p.kept.0
+
+    abbrev pub above : Option Grant
+    above = parent_in p.facts.grants (parent_of line)
+
+    abbrev pub known : (f : Fresh) × (form (length p.facts.grants + 1) line (undone above) ≡ Some f)
+    known = some_form (form (length p.facts.grants + 1) line (undone above)) (has_form p.facts.memory p.facts.grants line allowed)
+
+    abbrev pub fresh : Fresh
+    fresh = known.0
+
+    formed : form (length p.facts.grants + 1) line above ≡ Some fresh
+    formed = form_undone (length p.facts.grants + 1) line above fresh known.1
+
+    formed_there : form (length p.state.grants + 1) line (parent_in p.state.grants (parent_of line)) ≡ Some fresh
+    formed_there = subst (λ (xs : List Grant). form (length xs + 1) line (parent_in xs (parent_of line)) ≡ Some fresh) p.grants formed
+
+    above_form : IsFormOf above
+    above_form = parent_form (parent_of line)
+      where
+        parent_form : (o : Option ℕ) → IsFormOf (parent_in p.facts.grants o)
+        parent_form None = tt
+        parent_form (Some g) = by_grant (grant_in p.facts.grants g) refl
+          where
+            by_grant : (o : Option Grant) → grant_in p.facts.grants g ≡ o → IsFormOf o
+            by_grant None e = tt
+            by_grant (Some x) e = p.forms g x e
+
+    is_fresh : is_form fresh ≡ true
+    is_fresh =
+        line_is_form p.facts.memory (length p.facts.grants + 1) line (undone above) fresh (subst (λ (k : ℕ). k ≤ 1048576) (sym p.memory) low) (limits _ _ p.kept.0) (undone_form above above_form) (is_inside p.facts.memory p.facts.grants line allowed) known.1
+      where
+        limits : (a b : Bool) → (a || (not (is_in_limits line) || b)) ≡ false → is_in_limits line ≡ true
+        limits a b e = grind (arith, e)
+
+    abbrev pub here : (c : Context) × (context_of (holder line) p.state.contexts ≡ Some c)
+    here = some_context (context_of (holder line) p.state.contexts) obeyed.1.0
+      where
+        some_context : (o : Option Context) → Declared o → (c : Context) × (o ≡ Some c)
+        some_context None d = absurd d
+        some_context (Some c) d = (c, refl)
+
+    abbrev pub before : Context
+    before = here.0
+
+    abbrev pub after : Context
+    after = with_endpoint before (holder_ep line) (opened fresh)
+
+    act : before.act ≡ holder line
+    act = found_act (holder line) before p.state.contexts here.1
+
+    pub can_install : CanInstall table (holder line) (holder_ep line) fresh
+    can_install = record {
+      context = before;
+      there = p.has.same (holder line) ∙ here.1;
+      free = p.free (holder line) (holder_ep line) before here.1 obeyed.1.1;
+      form = is_fresh;
+    }
+
+    pub is_granted : fresh_in (grant_in (facts_of setup).grants (n + 1)) ≡ Some fresh
+    is_granted =
+        ap fresh_in (
+        ap (λ f. grant_in f.grants (n + 1)) (sym p.ends)
+          ∙ in_all left (noted (SetupLine.Grant line) p.facts) (new_grant line fresh) (n + 1) (
+          ap (λ o. grant_in (with_grant line p.facts.grants o) (n + 1)) formed
+            ∙ ap (λ k. grant_in (p.facts.grants ++ new_grant line fresh ∷ []) (k + 1)) p.count
+            ∙ in_last p.facts.grants (new_grant line fresh)
+          )
+        )
+
+    grants_after : (noted (SetupLine.Grant line) p.facts).grants ≡ p.facts.grants ++ new_grant line fresh ∷ []
+    grants_after = ap (with_grant line p.facts.grants) formed
+
+    state_after : with_line p.state (SetupLine.Grant line) ≡ granted p.state line (Some fresh)
+    state_after = ap (granted p.state line) formed_there
+
+    contexts_after : (with_line p.state (SetupLine.Grant line)).contexts ≡ put_context after p.state.contexts
+    contexts_after = ap (λ s. s.contexts) state_after ∙ ap (installed (holder_ep line) fresh p.state.contexts) here.1
+
+    low_act : before.act < 64
+    low_act = subst (λ (k : ℕ). k < 64) (sym act) p.kept.1.0.0
+
+    has_after : HasContexts (set table (holder line) (Some after)) (with_line p.state (SetupLine.Grant line)).contexts
+    has_after =
+        subst (λ (cs : List Context). HasContexts (set table (holder line) (Some after)) cs) (sym contexts_after) (
+        subst (λ (k : ℕ). HasContexts (set table k (Some after)) (put_context after p.state.contexts)) act (
+        has_put table p.state.contexts p.has after before low_act (ap (λ k. get_or table k None) act ∙ p.has.same (holder line) ∙ here.1)
+        )
+        )
+
+    still_free : AreFree (granted p.state line (Some fresh))
+    still_free b ep c there none =
+        let split : (list_any (holds_at b ep) p.state.grants || holds_at b ep (new_grant line fresh)) ≡ false = sym (any_more b ep p.state.grants (new_grant line fresh)) ∙ none in
+        let cs : context_of b (put_context after p.state.contexts) ≡ Some c = sym (ap (λ o. context_of b (installed (holder_ep line) fresh p.state.contexts o)) here.1) ∙ there in
+        ⊎_elim
+          (λ (e : b ≡ after.act).
+            let at : b ≡ holder line = e ∙ act in
+            let is : after ≡ c = some_is after c (sym (found_put after.act after before p.state.contexts (ap (λ k. context_of k p.state.contexts) act ∙ here.1) refl) ∙ ap (λ k. context_of k (put_context after p.state.contexts)) (sym e) ∙ cs) in
+            let unheld : holds_at (holder line) ep (new_grant line fresh) ≡ false = subst (λ (k : ℕ). holds_at k ep (new_grant line fresh) ≡ false) at (then_free _ _ split) in
+            let old : endpoint before ep ≡ Free = p.free (holder line) ep before here.1 (subst (λ (k : ℕ). list_any (holds_at k ep) p.state.grants ≡ false) at (first_free _ _ split)) in
+            subst (λ (x : Context). endpoint x ep ≡ Free) is (get_or-set_other before.endpoints (holder_ep line) ep (opened fresh) Free (other_ep ep line fresh unheld) ∙ old))
+          (λ (ne : b ≡ after.act → ⊥). p.free b ep c (sym (found_kept b after p.state.contexts ne) ∙ cs) (first_free _ _ split))
+          (cases_eq b after.act)
+
+    pub grant_step : Progress setup (set table (holder line) (Some after)) (n + 1) left
+    grant_step = record {
+      state = with_line p.state (SetupLine.Grant line);
+      facts = noted (SetupLine.Grant line) p.facts;
+      grants = next_ties.grants;
+      room = next_ties.room;
+      homes = next_ties.homes;
+      kept = p.kept.1.1;
+      opens = p.opens;
+      ends = p.ends;
+      has = has_after;
+      count = ap (λ k. k + 1) p.count ∙ sym (ap length grants_after ∙ one_longer p.facts.grants (new_grant line fresh));
+      free = subst (λ (s : State). AreFree s) (sym state_after) still_free;
+      forms = subst (λ (gs : List Grant). AreForms gs) (sym grants_after) (forms_more p.facts.grants (new_grant line fresh) p.forms is_fresh);
+      memory = p.memory;
+    }
