@@ -174,11 +174,11 @@ module _ (setup : SetupValue) (table : List (Option Context)) (n : ℕ) where
     act_free : AreFree (with_line p.state (SetupLine.Act a t))
     act_free b ep c there none =
         ⊎_elim
-          (λ (e : b ≡ a).
-            let is : new_context a ≡ c = some_is (new_context a) c (sym (found_new a (new_context a) p.state.contexts is_new.0 refl) ∙ ap (λ x. context_of x (new_context_in (new_context a) p.state.contexts)) (sym e) ∙ there) in
-            subst (λ (x : Context). endpoint x ep ≡ Free) is (no_record ep))
-          (λ (ne : b ≡ a → ⊥). p.free b ep c (sym (found_beside b (new_context a) p.state.contexts ne) ∙ there) none)
-          (cases_eq b a)
+        (λ (e : b ≡ a).
+        let is : new_context a ≡ c = some_is (new_context a) c (sym (found_new a (new_context a) p.state.contexts is_new.0 refl) ∙ ap (λ x. context_of x (new_context_in (new_context a) p.state.contexts)) (sym e) ∙ there) in
+        subst (λ (x : Context). endpoint x ep ≡ Free) is (no_record ep))
+        (λ (ne : b ≡ a → ⊥). p.free b ep c (sym (found_beside b (new_context a) p.state.contexts ne) ∙ there) none)
+        (cases_eq b a)
 
     pub act_step : Progress setup (set table a (Some (new_context a))) n left
     act_step = record {
@@ -268,11 +268,11 @@ module _ (setup : SetupValue) (table : List (Option Context)) (n : ℕ) where
     is_granted =
         ap fresh_in (
         ap (λ f. grant_in f.grants (n + 1)) (sym p.ends)
-          ∙ in_all left (noted (SetupLine.Grant line) p.facts) (new_grant line fresh) (n + 1) (
-          ap (λ o. grant_in (with_grant line p.facts.grants o) (n + 1)) formed
-            ∙ ap (λ k. grant_in (p.facts.grants ++ new_grant line fresh ∷ []) (k + 1)) p.count
-            ∙ in_last p.facts.grants (new_grant line fresh)
-          )
+        ∙ in_all left (noted (SetupLine.Grant line) p.facts) (new_grant line fresh) (n + 1) (
+        ap (λ o. grant_in (with_grant line p.facts.grants o) (n + 1)) formed
+        ∙ ap (λ k. grant_in (p.facts.grants ++ new_grant line fresh ∷ []) (k + 1)) p.count
+        ∙ in_last p.facts.grants (new_grant line fresh)
+        )
         )
 
     grants_after : (noted (SetupLine.Grant line) p.facts).grants ≡ p.facts.grants ++ new_grant line fresh ∷ []
@@ -300,14 +300,14 @@ module _ (setup : SetupValue) (table : List (Option Context)) (n : ℕ) where
         let split : (list_any (holds_at b ep) p.state.grants || holds_at b ep (new_grant line fresh)) ≡ false = sym (any_more b ep p.state.grants (new_grant line fresh)) ∙ none in
         let cs : context_of b (put_context after p.state.contexts) ≡ Some c = sym (ap (λ o. context_of b (installed (holder_ep line) fresh p.state.contexts o)) here.1) ∙ there in
         ⊎_elim
-          (λ (e : b ≡ after.act).
-            let at : b ≡ holder line = e ∙ act in
-            let is : after ≡ c = some_is after c (sym (found_put after.act after before p.state.contexts (ap (λ k. context_of k p.state.contexts) act ∙ here.1) refl) ∙ ap (λ k. context_of k (put_context after p.state.contexts)) (sym e) ∙ cs) in
-            let unheld : holds_at (holder line) ep (new_grant line fresh) ≡ false = subst (λ (k : ℕ). holds_at k ep (new_grant line fresh) ≡ false) at (then_free _ _ split) in
-            let old : endpoint before ep ≡ Free = p.free (holder line) ep before here.1 (subst (λ (k : ℕ). list_any (holds_at k ep) p.state.grants ≡ false) at (first_free _ _ split)) in
-            subst (λ (x : Context). endpoint x ep ≡ Free) is (get_or-set_other before.endpoints (holder_ep line) ep (opened fresh) Free (other_ep ep line fresh unheld) ∙ old))
-          (λ (ne : b ≡ after.act → ⊥). p.free b ep c (sym (found_kept b after p.state.contexts ne) ∙ cs) (first_free _ _ split))
-          (cases_eq b after.act)
+        (λ (e : b ≡ after.act).
+        let at : b ≡ holder line = e ∙ act in
+        let is : after ≡ c = some_is after c (sym (found_put after.act after before p.state.contexts (ap (λ k. context_of k p.state.contexts) act ∙ here.1) refl) ∙ ap (λ k. context_of k (put_context after p.state.contexts)) (sym e) ∙ cs) in
+        let unheld : holds_at (holder line) ep (new_grant line fresh) ≡ false = subst (λ (k : ℕ). holds_at k ep (new_grant line fresh) ≡ false) at (then_free _ _ split) in
+        let old : endpoint before ep ≡ Free = p.free (holder line) ep before here.1 (subst (λ (k : ℕ). list_any (holds_at k ep) p.state.grants ≡ false) at (first_free _ _ split)) in
+        subst (λ (x : Context). endpoint x ep ≡ Free) is (get_or-set_other before.endpoints (holder_ep line) ep (opened fresh) Free (other_ep ep line fresh unheld) ∙ old))
+        (λ (ne : b ≡ after.act → ⊥). p.free b ep c (sym (found_kept b after p.state.contexts ne) ∙ cs) (first_free _ _ split))
+        (cases_eq b after.act)
 
     pub grant_step : Progress setup (set table (holder line) (Some after)) (n + 1) left
     grant_step = record {

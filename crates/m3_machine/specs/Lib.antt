@@ -11,6 +11,8 @@ pub mod Moving
 pub mod Rows
 pub mod Homes
 pub mod Links
+pub mod Telling
+pub mod TileView
 pub mod Progress
 pub mod Aims
 pub mod Table

@@ -2,4 +2,6 @@
 #![tactic(auto)]
 
 pub mod links;
+mod shown;
 pub mod site;
+pub mod tile;

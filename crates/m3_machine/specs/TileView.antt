@@ -1,0 +1,17 @@
+-- What a tile is to a reader, and when it may issue a command.
+use Rattle.std.specs.Prelude.{ℕ, ◌<◌, map, Option, Some, None}
+use Rattle.m3_base.specs.declared.command.Command.{Command}
+use Rattle.m3_base.specs.Context.{Context}
+use Rattle.m3_core.specs.Conditions.{HasTokenFor}
+use Rattle.m3_machine.specs.declared.tile.TilePart.TheInside.{Inside}
+use Rattle.m3_machine.specs.Parts.{Tile}
+use Rattle.m3_machine.specs.Machine.{new_stay}
+
+-- no program has made a move yet
+abbrev pub tile_value : Inside → Tile
+tile_value t = record { tile = t.tile; current = t.current; stays = map new_stay t.acts.items }
+
+-- the numbers of the next flight and of the next token are below the largest
+abbrev pub CanIssue : Option Context → Command → Type 0
+CanIssue None c = Unit {0}
+CanIssue (Some x) c = (x.next < 4294967295) × HasTokenFor x c
