@@ -27,6 +27,10 @@ NewOk h c (Some q) = (name_of q ≡ next_id c) × (is_named h q ≡ true)
 abbrev pub IssuesOk : Site → Context → Issued → Type 0
 IssuesOk h c i = (i.context.act ≡ c.act) × (is_named_context h i.context ≡ true) × NewOk h c i.packet
 
+abbrev pub IssuedOk : Site → Context → Option Issued → Type 0
+IssuedOk h c None = Unit {0}
+IssuedOk h c (Some i) = IssuesOk h c i
+
 module _ (h : Site) (c : Context) (known : is_home h c.act ≡ true) (named : is_named_context h c ≡ true) where
   unless_ok : (why : Option Refusal) (i : Issued) → IssuesOk h c i → IssuesOk h c (unless why c i)
   unless_ok None i k = k
@@ -121,15 +125,11 @@ module _ (h : Site) (c : Context) (known : is_home h c.act ≡ true) (named : is
   write_ok ep off payload (Reaches r) =
       unless_ok (access_refusal r off (length payload) (may_write r.perm)) (access c Writing ep (Packet.Write (next_id c) r.grant (r.start + off) payload)) (refl, named, (refl, grind (arith, known)))
 
-  abbrev pub IssuedOk : Option Issued → Type 0
-  IssuedOk None = Unit {0}
-  IssuedOk (Some i) = IssuesOk h c i
-
-  busy_ok : (b : Bool) (i : Issued) → IssuesOk h c i → IssuedOk (cond b None (Some i))
+  busy_ok : (b : Bool) (i : Issued) → IssuesOk h c i → IssuedOk h c (cond b None (Some i))
   busy_ok true i k = tt
   busy_ok false i k = k
 
-  pub issue_ok : (x : Command) → IssuedOk (issue c x)
+  pub issue_ok : (x : Command) → IssuedOk h c (issue c x)
   issue_ok (Command.Send ep payload to) = busy_ok (is_busy c) (send c ep payload to (endpoint c ep)) (send_ok ep payload to (endpoint c ep) (at_endpoint ep))
   issue_ok (Command.Reply ep token payload) = busy_ok (is_busy c) (reply c ep token payload (endpoint c ep)) (reply_ok ep token payload (endpoint c ep) (at_endpoint ep))
   issue_ok (Command.Fetch ep) = fetch_ok ep (endpoint c ep) (at_endpoint ep)
