@@ -1,6 +1,8 @@
 pub mod Names
 pub mod Sorting
 pub mod Keyed
+pub mod SoFar
+pub mod Ends
 pub mod Ascii
 pub mod SetupTables
 pub mod SetupGrow

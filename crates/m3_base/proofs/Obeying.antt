@@ -1,14 +1,14 @@
 -- A valid setup obeys what the laws of runs need.
-use Rattle.std.proofs.Common.{◌≡◌, ◌≢◌, ℕ, ◌+◌, ◌-◌, ◌<◌, Bool, true, false, List, [], ◌∷◌, ◌++◌, length, get_or, set, length-set, get_or-set_same, get_or-set_other, Some, None, refl, sym, ◌∙◌, ap, subst, arith, replicate}
-use Rattle.std.specs.Prelude.{Option, zero, suc, if◌then◌else◌, ◌==◌, is_some, is_none, not, ◌||◌}
+use Rattle.std.proofs.Common.{◌≡◌, ◌≢◌, ℕ, ◌+◌, ◌<◌, Bool, true, false, List, [], ◌∷◌, length, get_or, set, length-set, get_or-set_same, get_or-set_other, Some, None, refl, sym, ◌∙◌, ap, arith, replicate}
+use Rattle.std.specs.Prelude.{Option, zero, suc, ◌==◌, is_some, is_none, ◌||◌}
 use Rattle.std.specs.List.{list_any}
 use Rattle.std.proofs.lemmas.Bool.Decides.{nat_tests}
 use Rattle.m3_base.specs.declared.order.GrantLine.{GrantLine}
 use Rattle.m3_base.specs.declared.packet.Fresh.{Fresh}
 use Rattle.m3_base.specs.declared.setup_line.SetupLine.{SetupLine}
 use Rattle.m3_base.specs.Context.{Context, new_context, opened, with_endpoint}
-use Rattle.m3_base.specs.State.{State, Grant, context_of, put_context, new_context_in, act_before, same_act, holder, holder_ep, parent_of, parent_in}
-use Rattle.m3_base.specs.Grants.{form, new_grant, holds_at, make_refusal}
+use Rattle.m3_base.specs.State.{State, Grant, context_of, put_context, new_context_in, holder, holder_ep, parent_of, parent_in}
+use Rattle.m3_base.specs.Grants.{form, holds_at, make_refusal}
 use Rattle.m3_base.specs.Opening.{with_line, with_lines, granted, installed, opening}
 use Rattle.m3_base.specs.Setup.{Facts, SetupValue, IsValid, AllKept, InRange, no_lines, noted, all_noted, facts_of, refuses, home_in, with_grant, grant_added}
 use Rattle.m3_base.specs.Obeys.{Declared, Obeys, AllObey}

@@ -1,4 +1,9 @@
 pub mod Names
+pub mod Lists
+pub mod Causes
+pub mod Ends
+pub mod MemoryEnds
+pub mod Programs
 pub mod Keyed
 pub mod Sums
 pub mod Flight
