@@ -1,2 +1,4 @@
 pub mod Sound
 pub mod Refused
+pub mod Places
+pub mod Credits

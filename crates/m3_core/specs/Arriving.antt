@@ -1,5 +1,6 @@
 -- What the definition of a landing says, from what the call answers.
 use Rattle.std.specs.Prelude.{ℕ, true, false, Option, Some, None}
+use Rattle.m3_base.specs.declared.ids.FlightId.{FlightId}
 use Rattle.m3_base.specs.declared.packet.Packet.{Packet}
 use Rattle.m3_base.specs.declared.event.Said.{Said}
 use Rattle.m3_base.specs.Flight.{name_of}
@@ -12,15 +13,16 @@ abbrev pub credit_grant : Packet → ℕ
 credit_grant (Packet.Credit id to g) = g
 credit_grant packet = 0
 
-abbrev pub said_by : Packet → Arrived → Said
-said_by p (Arrived.Landed answer) = Said.Landed (name_of p)
-said_by p (Arrived.Refused why answer) = Said.LandRefused (name_of p) why
-said_by p (Arrived.Answered id answer closed) = Said.Answered id answer closed
-said_by p (Arrived.Credited true) = Said.Credited (name_of p) (credit_grant p)
-said_by p (Arrived.Credited false) = Said.Discarded (name_of p) (credit_grant p)
-said_by p (Arrived.Installed g) = Said.Installed (name_of p) g
-said_by p (Arrived.Closing g) = Said.Closing (name_of p) g
-said_by p (Arrived.Closed g) = Said.Closed (name_of p) g
+-- of a packet of this name, and for a credit of this grant
+abbrev pub said_by : FlightId → ℕ → Arrived → Said
+said_by id g (Arrived.Landed answer) = Said.Landed id
+said_by id g (Arrived.Refused why answer) = Said.LandRefused id why
+said_by id g (Arrived.Answered x answer closed) = Said.Answered x answer closed
+said_by id g (Arrived.Credited true) = Said.Credited id g
+said_by id g (Arrived.Credited false) = Said.Discarded id g
+said_by id g (Arrived.Installed h) = Said.Installed id h
+said_by id g (Arrived.Closing h) = Said.Closing id h
+said_by id g (Arrived.Closed h) = Said.Closed id h
 
 -- the answer that arises
 abbrev pub answer_by : Arrived → Option Packet
@@ -34,6 +36,9 @@ freed_by (Arrived.Answered id answer closed) = closed
 freed_by (Arrived.Closed g) = Some g
 freed_by arrived = None
 
+abbrev pub arrived_as : FlightId → ℕ → Arrived → Context → Arrival
+arrived_as id g a c = record { said = said_by id g a; context = c; answer = answer_by a; freed = freed_by a }
+
 -- the packet, what the call answers, and the context after it
 abbrev pub arrived_by : Packet → Arrived → Context → Arrival
-arrived_by p a c = record { said = said_by p a; context = c; answer = answer_by a; freed = freed_by a }
+arrived_by p = arrived_as (name_of p) (credit_grant p)

@@ -2,6 +2,7 @@ pub mod FlyingView
 pub mod Sound
 pub mod SlotView
 pub mod Slots
+pub mod Places
 pub mod ContextView
 pub mod Issuing
 pub mod Arriving

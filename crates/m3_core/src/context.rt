@@ -1,11 +1,14 @@
 //! The context of an activity.
 
+mod arrive;
+mod fits;
 mod issue;
 
 ghost use Rattle.std.specs.Prelude.{◌≡◌, ℕ, ◌+◌, ◌<◌, ◌≤◌, [], ◌∷◌, ◌++◌, length, replicate, false, IfOk, IsTrue, option_copied};
-ghost use Rattle.m3_base.specs.Context.{Free, new_context, endpoint};
+ghost use Rattle.m3_base.specs.Context.{Free, new_context, endpoint, with_endpoint, opened};
 ghost use Rattle.m3_base.specs.Issue.{window, is_busy, next_id, launched};
 ghost use Rattle.m3_core.specs.FlyingView.{kind_of};
+ghost use Rattle.m3_base.specs.Fits.{is_form};
 ghost use Rattle.m3_endpoint.specs.Records.{endpoint_of};
 ghost use Rattle.m3_core.specs.Slots.{oldest_at, fetched_message_at};
 
@@ -13,6 +16,7 @@ use crate::flying::{Flying, Kind};
 use crate::slot::Slot;
 use m3_base::ids::{ActId, EpId, FlightId};
 use m3_base::message::Message;
+use m3_base::packet::Fresh;
 use m3_endpoint::record_kind::Record;
 use std::alloc::{AllocError, Global};
 use std::marker::Model;
@@ -115,6 +119,15 @@ impl Context {
         ensures { result ≡ is_busy self.now }
     {
         self.flying.len() >= WINDOW
+    }
+
+    /// A record of this form stands at a free endpoint from now on.
+    pub fn install(&mut self, ep: EpId, fresh: Fresh)
+        requires free { endpoint self.old ep ≡ Free }
+        requires form { IsTrue (is_form fresh) }
+        ensures { self.new ≡ with_endpoint self.old ep (opened fresh) }
+    {
+        self.slots[ep.number() as usize].install(&fresh);
     }
 
     /// The name of its next flight.

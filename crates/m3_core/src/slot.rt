@@ -3,7 +3,7 @@
 ghost use Rattle.std.specs.Prelude.{◌≡◌, ℕ, ◌<◌, ◌↔◌, true, false, IsTrue, IsSome, IfOk, None, Some, length, option_copied};
 ghost use Rattle.m3_base.specs.Context.{Free, opened};
 ghost use Rattle.m3_base.specs.Issue.{live_receive};
-ghost use Rattle.m3_base.specs.Land.{grant_of, is_closing, closed_at};
+ghost use Rattle.m3_base.specs.Land.{grant_of, is_closing, has_live, closed_at};
 ghost use Rattle.m3_base.specs.Fits.{is_form, is_free};
 ghost use Rattle.m3_endpoint.specs.Records.{endpoint_of};
 
@@ -106,6 +106,16 @@ impl Slot {
             Record::Send(r) => r.closing(),
             Record::Receive(r) => r.closing(),
             Record::Memory(r) => r.closing(),
+        }
+    }
+
+    /// Whether it has a live record of this grant.
+    pub fn has_live(&self, grant: GrantId) -> bool
+        ensures { result ≡ has_live grant self.now }
+    {
+        match self.grant() {
+            None => false,
+            Some(own) => own.number() == grant.number() && !self.is_closing(),
         }
     }
 
