@@ -1,5 +1,6 @@
 pub mod Names
 pub mod Lists
+pub mod PayloadLends
 pub mod Causes
 pub mod Ends
 pub mod MemoryEnds

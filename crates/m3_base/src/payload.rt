@@ -1,7 +1,9 @@
 //! Bytes that travel, and names.
 
 ghost use Rattle.std.specs.Prelude.{◌≡◌, ℕ, ◌<◌, ◌≤◌, List, length, IfOk};
+ghost use Rattle.std.specs.Borrow.{sem};
 ghost use Rattle.m3_base.specs.Names.{IsName};
+ghost use Rattle.m3_base.specs.PayloadLends.{lends_bytes};
 
 use std::alloc::{AllocError, Global};
 use std::marker::Model;
@@ -34,6 +36,14 @@ impl Payload {
         ensures { result.now ≡ self.now }
     {
         self.bytes.as_slice()
+    }
+
+    /// The bytes for writing. They stay as many.
+    pub fn bytes_mut(&mut self) -> &mut [u8]
+        ensures* writes_back { sem 𝓛 (lends_bytes self.entry result) }
+        ensures value { result.now ≡ self.old }
+    {
+        self.bytes.as_mut_slice()
     }
 
     /// How many bytes there are.
