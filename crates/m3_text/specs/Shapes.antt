@@ -13,3 +13,9 @@ fits [] [] = true
 fits [] (w ∷ ws) = false
 fits (f ∷ fs) [] = false
 fits (f ∷ fs) (w ∷ ws) = stands_for f w && fits fs ws
+
+-- whether the first words are those of a form
+abbrev pub begins : List (List ℕ) → List (List ℕ) → Bool
+begins [] ws = true
+begins (f ∷ fs) [] = false
+begins (f ∷ fs) (w ∷ ws) = stands_for f w && begins fs ws

@@ -2,7 +2,7 @@
 
 ghost use Rattle.std.specs.Prelude.{◌≡◌, ◌<◌, ◌≤◌, length, drop, IsTrue};
 ghost use Rattle.m3_text.specs.Lines.{texts};
-ghost use Rattle.m3_text.specs.Shapes.{word, stands_for, fits};
+ghost use Rattle.m3_text.specs.Shapes.{word, stands_for, fits, begins};
 
 /// The word at this place.
 pub fn word<'a>(words: &[&'a [u8]], index: usize) -> &'a [u8]
@@ -27,11 +27,20 @@ fn stands_for(form: &[u8], word: &[u8]) -> bool
 }
 
 /// Whether the words are those of a form, in which an empty word stands for any one.
+#[tactic(auto, using(crate::proofs::Forms::fits_begins, crate::proofs::Forms::fits_other))]
 pub fn fits(form: &[&[u8]], words: &[&[u8]]) -> bool
     ensures fits { result ≡ fits (texts form.now) (texts words.now) }
     ensures len { IsTrue result → length words.now ≡ length form.now }
 {
-    if form.len() != words.len() {
+    form.len() == words.len() && begins(form, words)
+}
+
+/// Whether the first words are those of a form.
+pub fn begins(form: &[&[u8]], words: &[&[u8]]) -> bool
+    ensures begins { result ≡ begins (texts form.now) (texts words.now) }
+    ensures len { IsTrue result → length form.now ≤ length words.now }
+{
+    if words.len() < form.len() {
         return false;
     }
     for i in 0..form.len() {

@@ -1,0 +1,23 @@
+use Rattle.std.proofs.Common.{arith}
+use Rattle.m3_script.specs.Scripts.{script_of}
+use Rattle.m3_script.specs.Steps.{state}
+use Rattle.m3_script.proofs.Loop.{goes_on, is_refused, at_end}
+use Rattle.m3_script.proofs.parsing.parse.Goals as goal
+
+pub returns-in-Err : goal.returns-in-Err
+returns-in-Err c = record {
+  exact = rw c.refusal.ensures (is_refused c.args.mode c.args.boxes c.loop-rest.rest.now c.cut_line.result.0.now c.cut_line.result.1.now (state c.loop-rest.progress) c.loop-rest.line c.in-Err.error
+      (script_of c.args.mode c.args.boxes c.args.bytes.now) c.cut_line.ensures.line c.in-Err.ensures c.loop-rest.invariant.reads);
+}
+
+pub loop-rest-preserved : goal.loop-rest-preserved
+loop-rest-preserved c = record {
+  reads = goes_on c.args.mode c.args.boxes c.loop-rest.rest.now c.cut_line.result.0.now c.cut_line.result.1.now (state c.loop-rest.progress) (state c.in-Ok.next) c.loop-rest.line
+      (script_of c.args.mode c.args.boxes c.args.bytes.now) c.cut_line.ensures.line c.in-Ok.ensures c.loop-rest.invariant.reads;
+  room = omega (arith, c.cut_line.ensures.shorter);
+}
+
+pub returns : goal.returns
+returns c = record {
+  exact = rw (at_end c.args.mode c.args.boxes c.loop-rest.rest.now (state c.loop-rest.progress) c.loop-rest.line (script_of c.args.mode c.args.boxes c.args.bytes.now) c.loop-rest-test.ensures c.loop-rest.invariant.reads) c.finish.ensures;
+}

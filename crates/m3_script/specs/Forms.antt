@@ -1,0 +1,84 @@
+-- The forms of lines, by their words. A word that is no part of a form stands for a number or for bytes.
+use Rattle.std.specs.Prelude.{ℕ, if◌then◌else◌, List, [], ◌∷◌, codes, drop, ◌||◌, Result, Ok, Err}
+use Rattle.m3_base.specs.declared.command.Command.{Command}
+use Rattle.m3_base.specs.declared.event.Event.{Event}
+use Rattle.m3_base.specs.declared.order.GrantLine.{GrantLine}
+use Rattle.m3_base.specs.declared.setup_line.SetupLine.{SetupLine}
+use Rattle.m3_text.specs.declared.refusal.Why.{Why}
+use Rattle.m3_text.specs.declared.refusal.Why.TheVariants as why
+use Rattle.m3_text.specs.Reads.{◌>>=◌}
+use Rattle.m3_text.specs.Numbers.{number}
+use Rattle.m3_text.specs.Shapes.{word, fits, begins}
+use Rattle.m3_text.specs.Sides.{both}
+use Rattle.m3_script.specs.declared.line.Line.{Line}
+use Rattle.m3_script.specs.Commands.{command_of}
+
+-- ---- the setup
+
+unfoldable pub machine_of : List (List ℕ) → Result Line Why
+machine_of ws = do
+  tiles ← number 3 16 (word 2 ws)
+  memory ← number 1 1048576 (word 4 ws)
+  Ok (Line.Machine tiles memory)
+
+unfoldable pub act_of : List (List ℕ) → Result Line Why
+act_of ws = do
+  act ← number 0 63 (word 1 ws)
+  tile ← number 0 15 (word 3 ws)
+  Ok (Line.Setup (SetupLine.Act act tile))
+
+unfoldable pub recv_of : List (List ℕ) → Result GrantLine Why
+recv_of ws = do
+  act ← number 0 63 (word 1 ws)
+  ep ← number 0 15 (word 2 ws)
+  slots ← number 1 32 (word 4 ws)
+  size ← number 1 512 (word 6 ws)
+  Ok (GrantLine.Recv act ep slots size)
+
+unfoldable pub send_of : List (List ℕ) → Result GrantLine Why
+send_of ws = do
+  act ← number 0 63 (word 1 ws)
+  ep ← number 0 15 (word 2 ws)
+  of ← number 1 4096 (word 4 ws)
+  label ← number 0 18446744073709551615 (word 6 ws)
+  credits ← number 1 32 (word 8 ws)
+  Ok (GrantLine.Send act ep of label credits)
+
+unfoldable pub grant_of : List (List ℕ) → Result GrantLine Why
+grant_of ws =
+    if fits (codes "recv" ∷ [] ∷ [] ∷ codes "slots" ∷ [] ∷ codes "size" ∷ [] ∷ []) ws then recv_of ws
+    else if fits (codes "send" ∷ [] ∷ [] ∷ codes "of" ∷ [] ∷ codes "label" ∷ [] ∷ codes "credits" ∷ [] ∷ []) ws then send_of ws
+    else Err why.Form
+
+-- ---- events
+
+-- the activity and its command stand side by side: the form of either comes before a number of the other
+unfoldable pub do_of : List (List ℕ) → Result (ℕ × Command) Why
+do_of ws = both (number 0 63 (word 1 ws)) (command_of (drop 2 ws))
+
+unfoldable pub take_of : List (List ℕ) → Result Event Why
+take_of ws = do
+  to ← number 0 15 (word 1 ws)
+  from ← number 0 15 (word 2 ws)
+  Ok (Event.Take to from)
+
+unfoldable pub event_of : List (List ℕ) → Result Event Why
+event_of ws =
+    if begins (codes "do" ∷ [] ∷ []) ws then (do_of ws >>= λ x. Ok (Event.Do x.0 x.1))
+    else if fits (codes "take" ∷ [] ∷ [] ∷ []) ws then take_of ws
+    else Err why.Form
+
+-- ---- any line
+
+-- a grant of the setup, or an event
+unfoldable pub later_of : List (List ℕ) → Result Line Why
+later_of ws =
+    if begins (codes "recv" ∷ []) ws || begins (codes "send" ∷ []) ws then (grant_of ws >>= λ line. Ok (Line.Setup (SetupLine.Grant line)))
+    else (event_of ws >>= λ event. Ok (Line.Event event))
+
+unfoldable pub line_of : List (List ℕ) → Result Line Why
+line_of ws =
+    if fits (codes "machine" ∷ codes "tiles" ∷ [] ∷ codes "memory" ∷ [] ∷ []) ws then machine_of ws
+    else if fits (codes "act" ∷ [] ∷ codes "tile" ∷ [] ∷ []) ws then act_of ws
+    else if fits (codes "begin" ∷ []) ws then Ok Line.Begin
+    else later_of ws

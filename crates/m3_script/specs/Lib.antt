@@ -1,0 +1,5 @@
+pub mod Commands
+pub mod Forms
+pub mod Rules
+pub mod Scripts
+pub mod Steps

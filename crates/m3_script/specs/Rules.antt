@@ -1,0 +1,65 @@
+-- The rules of scripts that the lines before decide, beside those that every setup keeps.
+use Rattle.std.specs.Prelude.{ℕ, Bool, true, false, not, ◌&&◌, ◌||◌, ◌==◌, nat_lt, nat_le, List}
+use Rattle.std.specs.List.{list_any}
+use Rattle.m3_base.specs.declared.event.Event.{Event}
+use Rattle.m3_base.specs.declared.order.Order.{Order}
+use Rattle.m3_base.specs.declared.order.FileLine.{FileLine}
+use Rattle.m3_base.specs.declared.setup_line.SetupLine.{SetupLine}
+use Rattle.m3_base.specs.declared.setup_line.ProgramKind.{ProgramKind}
+use Rattle.m3_base.specs.State.{holder}
+use Rattle.m3_base.specs.Setup.{SetupValue, facts_of, is_undeclared, program_in}
+use Rattle.m3_script.specs.declared.script.Mode.{Mode}
+
+-- ---- setup lines
+
+abbrev pub lives_on : ℕ → SetupLine → Bool
+lives_on t (SetupLine.Act a u) = u == t
+lives_on t line = false
+
+-- several activities on one tile aren't switched yet
+abbrev pub shares_tile : List SetupLine → SetupLine → Bool
+shares_tile lines (SetupLine.Act a t) = list_any (lives_on t) lines
+shares_tile lines line = false
+
+-- a box needs a logic that was handed in, of which there are this many
+abbrev pub lacks_logic : ℕ → SetupLine → Bool
+lacks_logic boxes (SetupLine.Boxed a logic fuel) = nat_le boxes logic
+lacks_logic boxes line = false
+
+-- ---- events
+
+abbrev pub is_programmed : ProgramKind → Bool
+is_programmed ProgramKind.Absent = false
+is_programmed kind = true
+
+abbrev pub has_program : ℕ → SetupValue → Bool
+has_program a x = is_programmed (program_in (facts_of x).programs a)
+
+abbrev pub is_absent : ℕ → SetupValue → Bool
+is_absent a x = is_undeclared a (facts_of x)
+
+-- the orders come by themselves in any mode, and all other events in a run alone
+abbrev pub is_allowed : Mode → Event → Bool
+is_allowed Mode.Run event = true
+is_allowed mode (Event.Order order) = true
+is_allowed mode event = false
+
+abbrev pub order_misses : Order → SetupValue → Bool
+order_misses (Order.Switch t a) x = not (nat_lt t x.tiles) || is_absent a x
+order_misses (Order.Grant line) x = is_absent (holder line) x
+order_misses (Order.Revoke g) x = false
+
+abbrev pub file_misses : FileLine → SetupValue → Bool
+file_misses (FileLine.Open name off a ep perm) x = is_absent a x
+file_misses line x = false
+
+-- whether the setup has no such tile or activity as the event names; a do needs one without a program, and a turn
+-- one with a program
+abbrev pub misses : Event → SetupValue → Bool
+misses (Event.Do a command) x = is_absent a x || has_program a x
+misses (Event.Turn a) x = is_absent a x || not (has_program a x)
+misses (Event.Take to from) x = not (nat_lt to x.tiles && nat_lt from x.tiles)
+misses (Event.Tend a) x = is_absent a x
+misses Event.Close x = false
+misses (Event.Order order) x = order_misses order x
+misses (Event.File line) x = file_misses line x

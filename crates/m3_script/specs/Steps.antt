@@ -1,0 +1,28 @@
+-- What the functions of the reader return, compared with what is read.
+use Rattle.std.specs.Prelude.{◌≡◌, ℕ, Result, Ok, Err, ⊤}
+use Rattle.m3_text.specs.declared.refusal.LineRefusal.{LineRefusal}
+use Rattle.m3_script.specs.declared.reading.Progress.{Progress}
+use Rattle.m3_script.specs.declared.script.Script.{Script}
+use Rattle.m3_script.specs.declared.script.ScriptRefusal.{ScriptRefusal}
+use Rattle.m3_script.specs.Scripts.{ScriptValue, State, Empty, InSetup, Running, Refused}
+
+abbrev pub state : Progress → State
+state Progress.Nothing = Empty
+state (Progress.InSetup x) = InSetup x
+state (Progress.Running x events) = Running x events.items
+
+abbrev pub script_value : Script → ScriptValue
+script_value s = record { setup = s.setup; events = s.events.items }
+
+abbrev pub refusal : ℕ → LineRefusal → ScriptRefusal
+refusal n LineRefusal.NoMemory = ScriptRefusal.NoMemory
+refusal n (LineRefusal.Bad why) = ScriptRefusal.Bad n why
+
+abbrev pub Refuses : ScriptRefusal → Result ScriptValue Refused → Type 0
+Refuses ScriptRefusal.NoMemory given = ⊤
+Refuses (ScriptRefusal.Bad line why) given = given ≡ Err (record { line = line; why = why })
+
+-- a parse gives the script that is spelled, or names the bad line, unless memory ran out
+abbrev pub Parses : Result Script ScriptRefusal → Result ScriptValue Refused → Type 0
+Parses (Ok s) given = given ≡ Ok (script_value s)
+Parses (Err e) given = Refuses e given

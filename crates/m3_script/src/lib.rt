@@ -1,0 +1,15 @@
+//! Scripts: a setup and the events of a run, read line by line.
+#![tactic(auto)]
+
+mod commands;
+mod events;
+mod line;
+mod parsing;
+mod reading;
+mod rules;
+mod script;
+mod setups;
+
+pub use m3_text::refusal::Why;
+pub use parsing::parse;
+pub use script::{Mode, Script, ScriptRefusal};

@@ -1,0 +1,54 @@
+//! Bytes as a script.
+
+ghost use Rattle.std.specs.Prelude.{◌≡◌, ◌≤◌, length};
+ghost use Rattle.m3_script.specs.Scripts.{script_of, ended};
+ghost use Rattle.m3_script.specs.Steps.{Parses, refusal, state};
+
+use crate::reading::{Frame, Progress, take_line};
+use crate::script::{Mode, Script, ScriptRefusal};
+use m3_text::lines::cut_line;
+use m3_text::refusal::{LineRefusal, Why};
+use std::alloc::Global;
+
+/// The script that the bytes spell, or the first line that is refused. `boxes` logics are handed in.
+pub fn parse(alloc: Global, bytes: &[u8], mode: Mode, boxes: u32) -> Result<Script, ScriptRefusal>
+    requires limit { length bytes.now ≤ 67108864 }
+    ensures exact { Parses result (script_of mode boxes bytes.now) }
+{
+    let frame = Frame { mode, boxes };
+    let mut progress = Progress::Nothing;
+    let mut words = Vec::new(alloc);
+    let mut rest = bytes;
+    let mut line: u32 = 1;
+    while !rest.is_empty() {
+        let (text, after) = cut_line(rest);
+        match take_line(alloc, frame, progress, text, &mut words) {
+            Ok(next) => progress = next,
+            Err(error) => return Err(refusal(line, error)),
+        }
+        rest = after;
+        line += 1;
+    }
+    finish(progress, line)
+}
+
+fn refusal(line: u32, error: LineRefusal) -> ScriptRefusal
+    ensures { result ≡ refusal line error }
+{
+    match error {
+        LineRefusal::Bad(why) => ScriptRefusal::Bad { line, why },
+        LineRefusal::NoMemory => ScriptRefusal::NoMemory,
+    }
+}
+
+fn finish(progress: Progress, line: u32) -> Result<Script, ScriptRefusal>
+    ensures { Parses result (ended line (state progress)) }
+{
+    match progress {
+        Progress::Running(setup, events) => Ok(Script { setup, events }),
+        _ => Err(ScriptRefusal::Bad {
+            line,
+            why: Why::Place,
+        }),
+    }
+}
