@@ -228,3 +228,175 @@ freeing_came s m id t w g said e says steps held None f k = tt
 freeing_came s m id t w g said e says steps held (Some n) f k =
     subst (λ o. SaidBy (landing_steps (said_or_nothing o)) s (said_or_nothing o) n.state) (sym (says n.word k))
     (subst (λ ts. SaidBy ts s said n.state) (sym steps) (two_steps s m n.state t (Step.Closed g) w n.word said e f (inl (ap (λ b. said_of b (w ∷ n.word ∷ [])) held ∙ says n.word k))))
+
+land_by : (s n : State) (id : FlightId) (w : Word) → istep s (Step.Land id) ≡ Some (record { word = w; state = n }) → IsLandWord id w
+    → CameSays s (came_by s id (Step.Land id ∷ closes (w ∷ [])) (on_from (irun (closes (w ∷ []))) (Some (record { word = w; state = n }))))
+land_by s n id (Landing x) e k = lone_came s n id (Step.Land id) (Landing x) (Said.Landed x) e refl (ap (λ y. Step.Land y ∷ []) k) refl
+land_by s n id (Refusing x why) e k = lone_came s n id (Step.Land id) (Refusing x why) (Said.LandRefused x why) e refl (ap (λ y. Step.Land y ∷ []) k) refl
+land_by s n id (Credits x g) e k = lone_came s n id (Step.Land id) (Credits x g) (Said.Credited x g) e refl (ap (λ y. Step.Land y ∷ []) k) refl
+land_by s n id (Discards x g) e k = lone_came s n id (Step.Land id) (Discards x g) (Said.Discarded x g) e refl (ap (λ y. Step.Land y ∷ []) k) refl
+land_by s n id (Installs x g) e k = lone_came s n id (Step.Land id) (Installs x g) (Said.Installed x g) e refl (ap (λ y. Step.Land y ∷ []) k) refl
+land_by s n id (Starts_closing x g) e k = lone_came s n id (Step.Land id) (Starts_closing x g) (Said.Closing x g) e refl (ap (λ y. Step.Land y ∷ []) k) refl
+land_by s n id (Is_closed x g) e k =
+    freeing_came s n id (Step.Land id) (Is_closed x g) g (Said.Closed x g) e (λ y f. ap (λ z. said_of false (Is_closed x g ∷ z ∷ [])) f) (ap (λ y. Step.Land y ∷ Step.Closed g ∷ []) k) refl
+    (istep n (Step.Closed g)) refl (closed_word n g (grant_in n.grants g))
+land_by s n id (At_issue t) e k = absurd k
+land_by s n id (Present b) e k = absurd k
+land_by s n id (Answers x answer o) e k = absurd k
+land_by s n id (Not_made why) e k = absurd k
+land_by s n id (Makes g x) e k = absurd k
+land_by s n id (Revokes g) e k = absurd k
+land_by s n id (Sends_close g x) e k = absurd k
+land_by s n id (Frees g) e k = absurd k
+land_by s n id (Is_done g b) e k = absurd k
+
+answer_by : (s n : State) (id : FlightId) (w : Word) → istep s (Step.Answered id) ≡ Some (record { word = w; state = n }) → IsAnswerWord id w
+    → CameSays s (came_by s id (Step.Answered id ∷ closes (w ∷ [])) (on_from (irun (closes (w ∷ []))) (Some (record { word = w; state = n }))))
+answer_by s n id (Answers x answer None) e k = lone_came s n id (Step.Answered id) (Answers x answer None) (Said.Answered x answer None) e refl (ap (λ y. Step.Answered y ∷ []) k) refl
+answer_by s n id (Answers x answer (Some g)) e k =
+    freeing_came s n id (Step.Answered id) (Answers x answer (Some g)) g (Said.Answered x answer (Some g)) e (λ y f. ap (λ z. said_of false (Answers x answer (Some g) ∷ z ∷ [])) f) (ap (λ y. Step.Answered y ∷ Step.Closed g ∷ []) k) refl
+    (istep n (Step.Closed g)) refl (closed_word n g (grant_in n.grants g))
+answer_by s n id (Landing x) e k = absurd k
+answer_by s n id (Refusing x why) e k = absurd k
+answer_by s n id (Credits x g) e k = absurd k
+answer_by s n id (Discards x g) e k = absurd k
+answer_by s n id (Installs x g) e k = absurd k
+answer_by s n id (Starts_closing x g) e k = absurd k
+answer_by s n id (Is_closed x g) e k = absurd k
+answer_by s n id (At_issue t) e k = absurd k
+answer_by s n id (Present b) e k = absurd k
+answer_by s n id (Not_made why) e k = absurd k
+answer_by s n id (Makes g x) e k = absurd k
+answer_by s n id (Revokes g) e k = absurd k
+answer_by s n id (Sends_close g x) e k = absurd k
+answer_by s n id (Frees g) e k = absurd k
+answer_by s n id (Is_done g b) e k = absurd k
+
+land_came : (s : State) (id : FlightId) (o : Option Next) → istep s (Step.Land id) ≡ o → LandsWord id o
+    → CameSays s (came_by s id (Step.Land id ∷ closes (words_in (on_from (irun []) o))) (on_from (irun (closes (words_in (on_from (irun []) o)))) o))
+land_came s id None e k = tt
+land_came s id (Some n) e k = land_by s n.state id n.word e k
+
+answer_came : (s : State) (id : FlightId) (o : Option Next) → istep s (Step.Answered id) ≡ o → AnswersWord id o
+    → CameSays s (came_by s id (Step.Answered id ∷ closes (words_in (on_from (irun []) o))) (on_from (irun (closes (words_in (on_from (irun []) o)))) o))
+answer_came s id None e k = tt
+answer_came s id (Some n) e k = answer_by s n.state id n.word e k
+
+came_first : (s : State) (id : FlightId) (t : Step) → (t ≡ Step.Land id) ⊎ (t ≡ Step.Answered id) → CameSays s (came_by s id (t ∷ closes (words_in (irun (t ∷ []) s))) (irun (t ∷ closes (words_in (irun (t ∷ []) s))) s))
+came_first s id t (inl e) = subst (λ t. CameSays s (came_by s id (t ∷ closes (words_in (irun (t ∷ []) s))) (irun (t ∷ closes (words_in (irun (t ∷ []) s))) s))) (sym e) (land_came s id (istep s (Step.Land id)) refl (land_word s id (flight id s.flights)))
+came_first s id t (inr e) = subst (λ t. CameSays s (came_by s id (t ∷ closes (words_in (irun (t ∷ []) s))) (irun (t ∷ closes (words_in (irun (t ∷ []) s))) s))) (sym e) (answer_came s id (istep s (Step.Answered id)) refl (answer_word s id (flight id s.flights)))
+
+first_step : (id : FlightId) (o : Option Packet) → (landing_step id o ≡ Step.Land id) ⊎ (landing_step id o ≡ Step.Answered id)
+first_step id None = inl refl
+first_step id (Some (Packet.Message to ep g m)) = inl refl
+first_step id (Some (Packet.Credit x to g)) = inl refl
+first_step id (Some (Packet.Read x g place buffer)) = inl refl
+first_step id (Some (Packet.Write x g place payload)) = inl refl
+first_step id (Some (Packet.Answer x answer)) = inr refl
+first_step id (Some (Packet.Install x to ep f)) = inl refl
+first_step id (Some (Packet.Close x to ep g)) = inl refl
+
+pub came_says : (s : State) (id : FlightId) → CameSays s (came s id)
+came_says s id = came_first s id (landing_step id (flight id s.flights)) (first_step id (flight id s.flights))
+
+-- ---- takes and tends
+
+abbrev pub TakeAs : State → Option Did → Type 0
+TakeAs s None = Unit {0}
+TakeAs s (Some d) = SaidBy (landing_steps d.said) s d.said d.state
+
+restored_as : (s n : State) (said : Said) (p : Places) (o : Option Actor) → SaidBy (landing_steps said) s said n → TakeAs s (places.restored said n p o)
+restored_as s n said p None k = k
+restored_as s n said p (Some x) k = k
+
+land_here_as : (s : State) (t : ℕ) (p : Places) (o : Option Came) → CameSays s o → TakeAs s (places.land_here t p o)
+land_here_as s t p None k = tt
+land_here_as s t p (Some c) k = k
+
+data_as : (s : State) (p : Places) (t : ℕ) (id : FlightId) → TakeAs s (places.take_data s p t id)
+data_as s p t id = by_test ((t == 1) || places.is_here (places.target_of (flight id s.flights)) (places.current_of t p))
+  where
+    by_test : (b : Bool) → TakeAs s (cond b (places.land_here t p (came s id)) (places.did (Said.Bounced id) s (places.pushed t 0 (places.Data id) p)))
+    by_test true = land_here_as s t p (came s id) (came_says s id)
+    by_test false = (tt, refl)
+
+at_tile_as : (s : State) (p : Places) (t : ℕ) (q : places.Token) → TakeAs s (places.take_at_tile s p t q)
+at_tile_as s p t (places.Data id) = data_as s p t id
+at_tile_as s p t (places.Save a) = (tt, refl)
+at_tile_as s p t (places.Saved a w e) = tt
+at_tile_as s p t (places.Restore a) = (tt, refl)
+at_tile_as s p t (places.Yield a) = tt
+at_tile_as s p t (places.Closed g) = tt
+
+routed_as : (s : State) (id : FlightId) (a : Option ℕ) (r : places.Routed) → TakeAs s (places.by_route id a s r)
+routed_as s id None r = (tt, refl)
+routed_as s id (Some a) r = by_held r.held
+  where
+    by_held : (b : Bool) → TakeAs s (places.did (places.routed_said id (Some a) b) s r.places)
+    by_held true = (tt, refl)
+    by_held false = (tt, refl)
+
+saved_as : (s : State) (p : Places) (w e : Bool) (o : Option Actor) → TakeAs s (places.saved_in s p w e o)
+saved_as s p w e None = tt
+saved_as s p w e (Some x) =
+    let q = places.join_ready (x.has_program && (not w && not e)) x.home x.act (places.at_place places.Resting x p) in
+    restored_as s s (Said.Saved x.act) q (if list_any (places.is_leaving_at x.home) q.actors then None else places.first_due x.home q.actors) (tt, refl)
+
+done_shows : (g : ℕ) (b : Bool) → (said : Said) × (said_of false (Is_done g b ∷ []) ≡ Some said) × (landing_steps said ≡ Step.Done g ∷ []) × (is_held said ≡ false)
+done_shows g true = (Said.Done g (Some g), refl, refl, refl)
+done_shows g false = (Said.Done g None, refl, refl, refl)
+
+abbrev DonesWord : ℕ → Option Next → Type 0
+DonesWord g None = Unit {0}
+DonesWord g (Some n) = (b : Bool) × (n.word ≡ Is_done g b)
+
+done_word : (s : State) (g : ℕ) (o : Option Grant) → DonesWord g (done_in s g o)
+done_word s g None = tt
+done_word s g (Some x) = by_test (is_closed_grant x.standing) _
+  where
+    by_test : (b : Bool) (n : State) → DonesWord g (cond b (Some (record { word = Is_done g x.is_root; state = n })) None)
+    by_test true n = (x.is_root, refl)
+    by_test false n = tt
+
+done_by_as : (s : State) (p : Places) (g : ℕ) (o : Option Next) → istep s (Step.Done g) ≡ o → DonesWord g o → TakeAs s (places.done_by s p (on_from (irun []) o))
+done_by_as s p g None e k = tt
+done_by_as s p g (Some n) e k =
+    let d = done_shows g k.0 in
+    let says : said_of false (n.word ∷ []) ≡ Some d.0 = ap (λ w. said_of false (w ∷ [])) k.1 ∙ d.1 in
+    subst (λ o. SaidBy (landing_steps (said_or_nothing o)) s (said_or_nothing o) n.state) (sym says)
+    (subst (λ ts. SaidBy ts s d.0 n.state) (sym d.2) (one_step s n.state (Step.Done g) n.word d.0 e (inl (ap (λ b. said_of b (n.word ∷ [])) d.3 ∙ says))))
+
+at_kernel_as : (s : State) (p : Places) (q : places.Token) → TakeAs s (places.take_at_kernel s p q)
+at_kernel_as s p (places.Data id) = let a = places.target_of (flight id s.flights) in routed_as s id a (places.route id (places.actor_for a p) p)
+at_kernel_as s p (places.Save a) = tt
+at_kernel_as s p (places.Saved a w e) = saved_as s p w e (places.actor a p)
+at_kernel_as s p (places.Restore a) = tt
+at_kernel_as s p (places.Yield a) = (tt, refl)
+at_kernel_as s p (places.Closed g) = done_by_as s p g (istep s (Step.Done g)) refl (done_word s g (grant_in s.grants g))
+
+take_as : (s : State) (p : Places) (to from : ℕ) (ts : List places.Token) → TakeAs s (places.take s p to from ts)
+take_as s p to from [] = (tt, refl)
+take_as s p to from (t ∷ ts) = by_test (to == 0)
+  where
+    by_test : (b : Bool) → TakeAs s (cond b (places.take_at_kernel s (places.with_link from to ts p) t) (places.take_at_tile s (places.with_link from to ts p) to t))
+    by_test true = at_kernel_as s (places.with_link from to ts p) t
+    by_test false = at_tile_as s (places.with_link from to ts p) to t
+
+tended_as : (s : State) (t : ℕ) (p : Places) (o : Option Came) → CameSays s o → TakeAs s (places.tended t p o)
+tended_as s t p None k = tt
+tended_as s t p (Some c) k =
+    let q = places.push_closed 0 c.freed (places.answer_routed c.answer p) in
+    restored_as s c.state c.said q (if list_any (places.is_leaving_at t) q.actors then None else places.first_due t q.actors) k
+
+tend_front_as : (s : State) (p : Places) (x : Actor) (ids : List FlightId) → TakeAs s (places.tend_front s p x ids)
+tend_front_as s p x [] = (tt, refl)
+tend_front_as s p x (id ∷ ids) =
+    tended_as s x.home (places.join_ready (places.is_resting x.place && (x.has_program && not x.ended)) x.home x.act (places.with_actor (record x { hold = ids }) p)) (came s id) (came_says s id)
+
+tend_as : (s : State) (p : Places) (o : Option Actor) → TakeAs s (places.tend s p o)
+tend_as s p None = tt
+tend_as s p (Some x) = by_test (places.is_placed x.place || places.is_leaving x.place)
+  where
+    by_test : (b : Bool) → TakeAs s (cond b (places.idle IdleWhy.NotResting s p) (places.tend_front s p x x.hold))
+    by_test true = (tt, refl)
+    by_test false = tend_front_as s p x x.hold
