@@ -45,7 +45,7 @@ SaysAs s e made (Some d) = SaidBy (steps_of e (record { made = made; said = d.sa
 
 -- ---- one step
 
-one_step : (s n : State) (t : Step) (w : Word) (said : Said) → istep s t ≡ Some (record { word = w; state = n }) → Shows (w ∷ []) said → SaidBy (t ∷ []) s said n
+pub one_step : (s n : State) (t : Step) (w : Word) (said : Said) → istep s t ≡ Some (record { word = w; state = n }) → Shows (w ∷ []) said → SaidBy (t ∷ []) s said n
 one_step s n t w said e shows =
     let ran : irun (t ∷ []) s ≡ Some (record { words = w ∷ []; state = n }) = ap (on_from (irun [])) e in
     (subst (λ r. IsSomeAnd r (λ x. Shows x.words said)) (sym ran) shows, ap (λ r. ran_to r s) ran)
@@ -99,13 +99,13 @@ command_by_word s p a c (Some n) e k =
     (one_step s n.state (Step.Issue a c) (At_issue t) said (e ∙ ap (λ w. Some (record { word = w; state = n.state })) k.1) (inl refl)) in
     subst (λ w. SaidBy (command_steps a c (said_or_nothing (said_of false (w ∷ [])))) s (said_or_nothing (said_of false (w ∷ []))) n.state) (sym k.1) goal
 
-command_as : (s : State) (p : Places) (a : ℕ) (c : Command) → CommandAs s a c (places.command_by s p a (irun (Step.Issue a c ∷ []) s))
+pub command_as : (s : State) (p : Places) (a : ℕ) (c : Command) → CommandAs s a c (places.command_by s p a (irun (Step.Issue a c ∷ []) s))
 command_as s p a c = command_by_word s p a c (istep s (Step.Issue a c)) refl (issue_word s (context_of a s.contexts) c)
 
-idle_command : (s : State) (p : Places) (a : ℕ) (c : Command) (why : IdleWhy) → CommandAs s a c (places.idle why s p)
+pub idle_command : (s : State) (p : Places) (a : ℕ) (c : Command) (why : IdleWhy) → CommandAs s a c (places.idle why s p)
 idle_command s p a c why = (tt, refl)
 
-do_as : (s : State) (p : Places) (a : ℕ) (c : Command) → CommandAs s a c (places.command s p a c)
+pub do_as : (s : State) (p : Places) (a : ℕ) (c : Command) → CommandAs s a c (places.command s p a c)
 do_as s p a c = by_current (not (places.is_current a p)) (places.busy_with c (context_of a s.contexts))
   where
     by_current : (b d : Bool) → CommandAs s a c (cond b (places.idle IdleWhy.NotCurrent s p) (cond d (places.idle IdleWhy.Busy s p) (places.command_by s p a (irun (Step.Issue a c ∷ []) s))))
@@ -374,7 +374,7 @@ at_kernel_as s p (places.Restore a) = tt
 at_kernel_as s p (places.Yield a) = (tt, refl)
 at_kernel_as s p (places.Closed g) = done_by_as s p g (istep s (Step.Done g)) refl (done_word s g (grant_in s.grants g))
 
-take_as : (s : State) (p : Places) (to from : ℕ) (ts : List places.Token) → TakeAs s (places.take s p to from ts)
+pub take_as : (s : State) (p : Places) (to from : ℕ) (ts : List places.Token) → TakeAs s (places.take s p to from ts)
 take_as s p to from [] = (tt, refl)
 take_as s p to from (t ∷ ts) = by_test (to == 0)
   where
@@ -393,7 +393,7 @@ tend_front_as s p x [] = (tt, refl)
 tend_front_as s p x (id ∷ ids) =
     tended_as s x.home (places.join_ready (places.is_resting x.place && (x.has_program && not x.ended)) x.home x.act (places.with_actor (record x { hold = ids }) p)) (came s id) (came_says s id)
 
-tend_as : (s : State) (p : Places) (o : Option Actor) → TakeAs s (places.tend s p o)
+pub tend_as : (s : State) (p : Places) (o : Option Actor) → TakeAs s (places.tend s p o)
 tend_as s p None = tt
 tend_as s p (Some x) = by_test (places.is_placed x.place || places.is_leaving x.place)
   where
