@@ -7,7 +7,7 @@ use Rattle.m3_base.specs.declared.message.Message.{Message}
 use Rattle.m3_base.specs.Context.{Flying, Endpoint, Free, Sends, Receives, Reaches}
 use Rattle.m3_base.specs.Land.{sends_by, more_at, credited, flying_at, without_flying, joined}
 use Rattle.m3_base.specs.Fits.{send_of}
-use Rattle.m3_core.specs.Places.{IsFlyingPlace, IsFlyingPlaceOf, IsSendPlace, IsNoSend, IsSendPlaceOf, send_at}
+use Rattle.m3_core.specs.Places.{IsFlyingPlaceOf, IsNoSend, IsSendPlaceOf, send_at}
 
 -- the place of the first element that passes the test, or the length
 abbrev place : {X : Type 0} → (X → Bool) → List X → ℕ

@@ -3,7 +3,7 @@ use Rattle.std.specs.Prelude.{◌≡◌, ℕ, ◌<◌, true, false, List, length
 use Rattle.std.specs.List.{list_any, remove}
 use Rattle.m3_base.specs.Context.{Flying, SendRecord, Endpoint, Free, Sends}
 use Rattle.m3_base.specs.Land.{sends_by, more_at, credited, flying_at, without_flying}
-use Rattle.m3_base.specs.Fits.{send_of, has_room_if, takes_back}
+use Rattle.m3_base.specs.Fits.{send_of}
 
 -- the command of number n is the one at i
 pub record IsFlyingPlace (fs : List Flying) (n i : ℕ) : Type 0 where
@@ -26,6 +26,9 @@ pub record IsSendPlace (es : List Endpoint) (g i : ℕ) : Type 0 where
   pub there : list_any (sends_by g) es ≡ true
   pub record_ : send_of g es ≡ send_at (slice_index_or es i Free)
   pub given : credited g es ≡ slice_set es i (more_at (slice_index_or es i Free))
+
+abbrev pub held_in : SendRecord → ℕ
+held_in r = r.held
 
 -- what holds where no endpoint has the send grant g
 pub record IsNoSend (es : List Endpoint) (g : ℕ) : Type 0 where

@@ -1,6 +1,7 @@
 //! The context of an activity.
 
 mod arrive;
+mod counts;
 mod fits;
 mod issue;
 

@@ -5,4 +5,5 @@ pub mod arrived;
 pub mod context;
 pub mod flying;
 pub mod issued;
+pub mod parcel;
 mod slot;

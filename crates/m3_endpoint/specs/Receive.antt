@@ -1,11 +1,13 @@
 -- What the calls of a receive record answer and leave.
-use Rattle.std.specs.Prelude.{ℕ, ◌<◌, Bool, true, false, List, [], ◌∷◌, length, slice_get, Option, Some, None, Result, Ok, Err, option_map, if◌then◌else◌}
+use Rattle.std.specs.Prelude.{ℕ, ◌+◌, ◌<◌, Bool, true, false, List, [], ◌∷◌, length, slice_get, Option, Some, None, Result, Ok, Err, option_map, if◌then◌else◌}
 use Rattle.m3_base.specs.declared.message.Header.{Header}
 use Rattle.m3_base.specs.declared.message.Message.{Message}
 use Rattle.m3_base.specs.declared.command.Refusal.{Refusal}
 use Rattle.m3_base.specs.Context.{Fetched, ReceiveRecord}
 use Rattle.m3_base.specs.Receive.{is_full, with_fetched, fetched_at, unmarked, freed, marking}
 use Rattle.m3_base.specs.Issue.{wants_no_reply}
+use Rattle.m3_base.specs.Sums.{how_many}
+use Rattle.m3_base.specs.Credit.{is_sent_by, is_owed}
 
 -- a record with no message yet
 abbrev pub empty_record : ℕ → ℕ → ℕ → ReceiveRecord
@@ -107,3 +109,7 @@ fetched_count r = length r.fetched
 abbrev pub token_at : Option ReceiveRecord → ℕ → Option ℕ
 token_at None i = None
 token_at (Some r) i = option_map token_in (slice_get r.fetched i)
+
+-- the messages sent through g that aren't replies, unread, or fetched and not being replied to
+abbrev pub queued_in : ℕ → ReceiveRecord → ℕ
+queued_in g r = how_many (is_sent_by g) r.unread + how_many (is_owed g) r.fetched

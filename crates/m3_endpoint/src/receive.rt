@@ -3,8 +3,9 @@
 ghost use Rattle.std.specs.Prelude.{◌≡◌, ℕ, ◌<◌, ◌≤◌, ◌↔◌, ◌==◌, ◌||◌, not, IsTrue, IsSome, IsOk, IsErr, true, IfSome, IfOk, IfErr, OnOk, None, Some, length, slice_get, option_map, option_copied};
 ghost use Rattle.m3_base.specs.Receive.{with_unread, freed, marking};
 ghost use Rattle.m3_base.specs.Fits.{is_form};
+ghost use Rattle.m3_base.specs.Credit.{is_sent_by};
 ghost use Rattle.m3_endpoint.specs.Forms.{receive_form};
-ghost use Rattle.m3_endpoint.specs.Receive.{empty_record, closing_one, is_full_one, HasToken, token_of_fetch, after_fetch, unread_at, token_in, message_at, unmarked_at, marked_at, header_or_refusal, reply_header, replied, grant_in, size_in, closing_in, next_token_in, unread_count, fetched_count, token_at};
+ghost use Rattle.m3_endpoint.specs.Receive.{empty_record, closing_one, is_full_one, HasToken, token_of_fetch, after_fetch, unread_at, token_in, message_at, unmarked_at, marked_at, header_or_refusal, reply_header, replied, grant_in, size_in, closing_in, next_token_in, unread_count, fetched_count, token_at, queued_in};
 
 use crate::fetched::{FetchedMessage, place_of};
 use circular_buffer::HeapCircularBuffer;
@@ -332,6 +333,24 @@ impl ReceiveEp {
         self.fetched.get(i).map(|f| f.token())
     }
 
+    /// How many messages that were sent through this grant, and aren't replies, are unread, or fetched and not being
+    /// replied to.
+    #[tactic(auto, using(crate::proofs::Counts::counted))]
+    pub fn queued(&self, grant: GrantId) -> u32
+        requires { IsSome self.now }
+        ensures count { Some result ≡ option_map (queued_in grant) self.now }
+        ensures range { result ≤ 32 }
+    {
+        let grant = grant.number() as u32;
+        let unread = self.unread.iter().filter(|m| is_sent_by(m, grant)).count();
+        let fetched = self
+            .fetched
+            .iter()
+            .filter(|f| is_sent_by(f.message(), grant) && !f.marked())
+            .count();
+        (unread + fetched) as u32
+    }
+
     /// Whether a message of this token is being replied to.
     pub fn marked(&self, token: u32) -> bool
         requires { IsSome self.now }
@@ -349,4 +368,11 @@ fn wants_none(header: &Header) -> bool
     ensures { result ≡ (not (header.now.flags == 0) || (header.now.reply_ep == 255)) }
 {
     header.flags != 0 || header.reply_ep == 255
+}
+
+/// Whether a message was sent through this grant and isn't a reply.
+fn is_sent_by(message: &Message, grant: u32) -> bool
+    ensures { result ≡ is_sent_by grant message.now }
+{
+    message.header.flags == 0 && message.header.send == grant
 }
