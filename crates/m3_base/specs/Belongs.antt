@@ -116,14 +116,20 @@ is_of_file Said.Revoke = true
 is_of_file (Said.No why) = is_of_files why
 is_of_file said = false
 
+-- only a turn makes a move
+abbrev pub is_of_event : Event → Said → Bool
+is_of_event (Event.Do a c) said = is_of_do c said
+is_of_event (Event.Turn a) said = false
+is_of_event (Event.Take to from) said = is_of_take said
+is_of_event (Event.Tend a) said = is_of_tend said
+is_of_event Event.Close said = is_of_close said
+is_of_event (Event.Order order) said = is_of_order order said
+is_of_event (Event.File line) said = is_of_file said
+
 abbrev pub is_of : Event → Option Made → Said → Bool
-is_of (Event.Do a c) made said = is_of_do c said
 is_of (Event.Turn a) made said = is_of_turn made said
-is_of (Event.Take to from) made said = is_of_take said
-is_of (Event.Tend a) made said = is_of_tend said
-is_of Event.Close made said = is_of_close said
-is_of (Event.Order order) made said = is_of_order order said
-is_of (Event.File line) made said = is_of_file said
+is_of e None said = is_of_event e said
+is_of e (Some made) said = false
 
 -- a restore stands with a tend, and with the take of Saved
 abbrev pub may_restore : Event → Said → Option ℕ → Bool

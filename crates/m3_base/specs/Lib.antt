@@ -30,6 +30,10 @@ pub mod Messages
 pub mod Places
 pub mod Walk
 pub mod Driver
+pub mod Legal
+pub mod Audit
+pub mod PlaceSteps
+pub mod Seen
 pub mod Rows
 pub mod PlacedRows
 pub mod AutoRows
