@@ -11,7 +11,7 @@ use Rattle.m3_base.specs.Receive.{with_unread, fetched_at, unmarked, without_tok
 use Rattle.m3_base.specs.Issue.{wants_no_reply}
 use Rattle.m3_base.specs.Fits.{is_message, is_header}
 use Rattle.m3_endpoint.specs.Receive.{closing_one, after_fetch, fetched_one, unmarked_at, header_or_refusal, reply_header, replied}
-use Rattle.m3_endpoint.specs.declared.record_kind.Record.{Record}
+use Rattle.m3_endpoint.specs.declared.endpoint.Record.{Record}
 use Rattle.m3_core.specs.SlotView.{IsKeptBy}
 use Rattle.m3_core.specs.Sound.{is_sound_fetched, IsSoundIn, HasSender, HasReplyPlace}
 

@@ -2,7 +2,7 @@
 -- one.
 use Rattle.std.specs.Prelude.{◌≡◌, Option, Some, None}
 use Rattle.m3_base.specs.Context.{ReceiveRecord, Endpoint}
-use Rattle.m3_endpoint.specs.declared.record_kind.Record.{Record}
+use Rattle.m3_endpoint.specs.declared.endpoint.Record.{Record}
 use Rattle.m3_endpoint.specs.Records.{endpoint_of}
 use Rattle.m3_core.specs.Sound.{IsSoundIn}
 use Rattle.m3_core.specs.declared.slot.Slot.TheInside.{Inside}

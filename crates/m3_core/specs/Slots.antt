@@ -7,6 +7,8 @@ use Rattle.m3_base.specs.Context.{SendRecord, ReceiveRecord, MemoryRecord, Endpo
 use Rattle.m3_base.specs.Receive.{with_fetched, fetched_at, unmarked, freed, marking}
 use Rattle.m3_base.specs.Issue.{first_of, wants_no_reply, less_one, may_read, may_write, access_refusal}
 use Rattle.m3_base.specs.Land.{joined}
+use Rattle.m3_endpoint.specs.Receive.{message_in, fetched_token, fetched_one, header_or_refusal, replied}
+use Rattle.m3_endpoint.specs.Memory.{permits}
 use Rattle.m3_core.specs.declared.slot.Target.{Target}
 use Rattle.m3_core.specs.declared.slot.Place.{Place}
 
@@ -40,6 +42,10 @@ abbrev pub changed_if : {X : Type 0} → Result X Refusal → Endpoint → Endpo
 changed_if (Ok x) new old = new
 changed_if (Err why) new old = old
 
+abbrev pub less_unless : {X : Type 0} → Result X Refusal → SendRecord → SendRecord
+less_unless (Ok x) r = less_one r
+less_unless (Err why) r = r
+
 abbrev pub less_at : Endpoint → Endpoint
 less_at (Sends r) = Sends (less_one r)
 less_at e = e
@@ -57,13 +63,9 @@ reply_refusal_at r token bytes =
     ∷ []
     )
 
-abbrev pub header_of : Option Message → Result Header Refusal
-header_of None = Err Refusal.NoSuchToken
-header_of (Some m) = Ok m.header
-
 abbrev pub header_unless : Option Refusal → Option Message → Result Header Refusal
 header_unless (Some why) m = Err why
-header_unless None m = header_of m
+header_unless None m = header_or_refusal m
 
 -- the header of the message that is replied to
 abbrev pub replying : ℕ → ℕ → Endpoint → Result Header Refusal
@@ -77,21 +79,13 @@ marking_at b token e = e
 abbrev pub is_closed : ReceiveRecord → Option Refusal
 is_closed r = first_of ((r.closing, Refusal.Revoked) ∷ [])
 
-abbrev pub token_of : ReceiveRecord → List Message → Option ℕ
-token_of r [] = None
-token_of r (m ∷ rest) = Some r.next_token
-
 abbrev pub fetching : Endpoint → Result (Option ℕ) Refusal
-fetching (Receives r) = unless_refused (is_closed r) (token_of r r.unread)
+fetching (Receives r) = unless_refused (is_closed r) (fetched_token r r.unread)
 fetching _ = Err Refusal.NoEndpoint
 
-abbrev pub fetched_from : ReceiveRecord → List Message → ReceiveRecord
-fetched_from r [] = r
-fetched_from r (m ∷ rest) = with_fetched r m rest
-
-abbrev pub fetched_from_at : Endpoint → Endpoint
-fetched_from_at (Receives r) = Receives (fetched_from r r.unread)
-fetched_from_at e = e
+abbrev pub fetched_at_once : Endpoint → Endpoint
+fetched_at_once (Receives r) = Receives (fetched_one r r.unread)
+fetched_at_once e = e
 
 abbrev pub acknowledging : ℕ → Endpoint → Result Header Refusal
 acknowledging token (Receives r) = header_unless (is_closed r) (unmarked (fetched_at token r.fetched))
@@ -108,16 +102,12 @@ HasToken e = Unit {0}
 
 -- ---- read and write
 
-abbrev pub permits : Bool → MemoryRecord → Bool
-permits true r = may_write r.perm
-permits false r = may_read r.perm
-
 abbrev pub place_of : MemoryRecord → ℕ → Place
 place_of r off = record { grant = r.grant; at = r.start + off }
 
 -- the grant and the place in memory of an access
 abbrev pub accessing : ℕ → ℕ → Bool → Endpoint → Result Place Refusal
-accessing off len is_write (Reaches r) = unless_refused (access_refusal r off len (permits is_write r)) (place_of r off)
+accessing off len is_write (Reaches r) = unless_refused (access_refusal r off len (permits is_write r.perm)) (place_of r off)
 accessing off len is_write _ = Err Refusal.NoEndpoint
 
 -- ---- landing
@@ -133,15 +123,10 @@ oldest_at (Receives r) = slice_get r.unread 0
 oldest_at _ = None
 
 abbrev pub fetched_message_at : ℕ → Endpoint → Option Message
-fetched_message_at token (Receives r) = option_map (λ f. f.message) (fetched_at token r.fetched)
+fetched_message_at token (Receives r) = option_map message_in (fetched_at token r.fetched)
 fetched_message_at token _ = None
-
-abbrev pub less_unless : {X : Type 0} → Result X Refusal → SendRecord → SendRecord
-less_unless (Ok x) r = less_one r
-less_unless (Err why) r = r
 
 -- a reply to the message of this token has landed, or was refused
 abbrev pub replied_at : Bool → ℕ → Endpoint → Endpoint
-replied_at true token (Receives r) = Receives (freed r token)
-replied_at false token (Receives r) = Receives (marking false r token)
+replied_at landed token (Receives r) = Receives (replied landed token r)
 replied_at landed token e = e

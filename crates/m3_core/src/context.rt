@@ -18,7 +18,7 @@ use crate::slot::Slot;
 use m3_base::ids::{ActId, EpId, FlightId};
 use m3_base::message::Message;
 use m3_base::packet::Fresh;
-use m3_endpoint::record_kind::Record;
+use m3_endpoint::endpoint::Record;
 use std::alloc::{AllocError, Global};
 use std::marker::Model;
 

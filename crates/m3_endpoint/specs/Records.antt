@@ -1,7 +1,7 @@
 -- What the record of an endpoint is to a reader.
 use Rattle.std.specs.Prelude.{Option, Some, None}
 use Rattle.m3_base.specs.Context.{ReceiveRecord, Endpoint, Free, Sends, Receives, Reaches}
-use Rattle.m3_endpoint.specs.declared.record_kind.Record.{Record}
+use Rattle.m3_endpoint.specs.declared.endpoint.Record.{Record}
 
 abbrev pub received : Option ReceiveRecord → Endpoint
 received None = Free

@@ -1,8 +1,9 @@
 //! The records of an activity's endpoints. Once they are made, no call on them takes memory.
 #![tactic(auto)]
 
+pub mod endpoint;
 mod fetched;
 pub mod memory;
 pub mod receive;
-pub mod record_kind;
+
 pub mod send;

@@ -13,7 +13,7 @@ use crate::slot::Slot;
 use m3_base::command::{Answer, Refusal};
 use m3_base::ids::GrantId;
 use m3_base::message::Message;
-use m3_endpoint::record_kind::Record;
+use m3_endpoint::endpoint::Record;
 
 impl Slot {
     /// Why a message to this grant can't land here.
