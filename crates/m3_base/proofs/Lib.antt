@@ -8,3 +8,4 @@ pub mod SetupTables
 pub mod SetupGrow
 pub mod SetupRules
 pub mod Obeying
+pub mod Programmed

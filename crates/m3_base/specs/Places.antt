@@ -20,6 +20,7 @@ use Rattle.m3_base.specs.State.{State, context_of, Grant}
 use Rattle.m3_base.specs.Grants.{may_close, kernel_id}
 use Rattle.m3_base.specs.Steps.{Word, Answers, Is_closed, Ran, irun, has_unread}
 use Rattle.m3_base.specs.Entries.{said_of, ran_to}
+use Rattle.m3_base.specs.Setup.{programmed_acts}
 
 pub data Standing_place : Type 0 where
   Placed Leaving Resting Coming : Standing_place
@@ -583,3 +584,7 @@ opening_places programs lines =
       quantum = 8;
     }
     ) lines
+
+-- the places of a setup before its first entry
+abbrev pub places_at_first : List SetupLine → Places
+places_at_first lines = opening_places (programmed_acts lines) lines

@@ -149,11 +149,17 @@ refuses (SetupLine.Boxed a logic fuel) f =
 abbrev pub is_machine : ℕ → ℕ → Bool
 is_machine tiles memory = is_within 3 16 tiles && is_within 1 1048576 memory
 
--- the numbers that name a new activity, or a grant's holder and endpoint, are in their ranges
+-- the numbers that name an activity of the line, or a grant's endpoint, are in their ranges
 abbrev pub InRange : SetupLine → Type 0
 InRange (SetupLine.Act a t) = a < 64
+InRange (SetupLine.Quantum q) = Unit {0}
 InRange (SetupLine.Grant line) = (holder line < 64) × (holder_ep line < 16)
-InRange line = Unit {0}
+InRange (SetupLine.Files g) = Unit {0}
+InRange (SetupLine.Item a c) = a < 64
+InRange (SetupLine.AwaitItem a ep) = a < 64
+InRange (SetupLine.Writer a m s r chunk ring bytes) = a < 64
+InRange (SetupLine.Reader a m r chunk ring fuel) = a < 64
+InRange (SetupLine.Boxed a logic fuel) = a < 64
 
 abbrev pub AllKept : List SetupLine → Facts → Type 0
 AllKept [] f = Unit {0}
@@ -163,3 +169,22 @@ AllKept (l ∷ ls) f = (refuses l f ≡ false) × (InRange l × AllKept ls (note
 pub record IsValid (s : SetupValue) : Type 0 where
   pub machine : is_machine s.tiles s.memory ≡ true
   pub lines : AllKept s.lines (no_lines s.tiles s.memory)
+
+-- ---- which activities have a program
+
+abbrev pub program_of : SetupLine → List ℕ
+program_of (SetupLine.Item a c) = a ∷ []
+program_of (SetupLine.AwaitItem a ep) = a ∷ []
+program_of (SetupLine.Writer a m s r chunk ring bytes) = a ∷ []
+program_of (SetupLine.Reader a m r chunk ring fuel) = a ∷ []
+program_of (SetupLine.Boxed a logic fuel) = a ∷ []
+program_of line = []
+
+-- one that has several items stands there several times
+abbrev pub programmed_acts : List SetupLine → List ℕ
+programmed_acts [] = []
+programmed_acts (l ∷ ls) = program_of l ++ programmed_acts ls
+
+abbrev pub is_programmed : ProgramKind → Bool
+is_programmed ProgramKind.Absent = false
+is_programmed kind = true

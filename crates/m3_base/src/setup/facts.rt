@@ -223,7 +223,8 @@ impl SetupFacts {
 
     fn add_program(&mut self, act: ActId, kind: ProgramKind, weight: u32)
         requires { self.old.weight + weight ≤ 16384 }
-        ensures { self.new ≡ programmed act kind weight self.old }
+        ensures facts { self.new ≡ programmed act kind weight self.old }
+        ensures range { act < 64 }
     {
         let at = act.number() as usize;
         self.programs[at] = kind;
