@@ -1,4 +1,4 @@
--- Row 20: two activities on one tile, by the driver.
+-- Two activities on one tile, by the driver: the sender ends, and the receiver comes to its turn.
 use Rattle.std.specs.Prelude.{◌≡◌, ℕ, zero, suc, ◌==◌, Bool, true, false, List, [], ◌∷◌, ◌++◌, Option, Some, None, if◌then◌else◌}
 use Rattle.std.proofs.Common.{refl}
 use Rattle.m3_base.specs.declared.command.Command.{Command}
@@ -92,16 +92,16 @@ abbrev pub auto : ℕ → Running → Running
 auto zero r = r
 auto (suc n) r = auto n (driven r (next_event r.state r.places []))
 
-abbrev pub setup_20 : List SetupLine
-setup_20 = SetupLine.Act 0 2 ∷ SetupLine.Act 1 2 ∷ SetupLine.Grant (GrantLine.Recv 1 0 1 4) ∷ SetupLine.Grant (GrantLine.Send 0 0 1 5 1) ∷ []
+abbrev pub two_on_one_tile_setup : List SetupLine
+two_on_one_tile_setup = SetupLine.Act 0 2 ∷ SetupLine.Act 1 2 ∷ SetupLine.Grant (GrantLine.Recv 1 0 1 4) ∷ SetupLine.Grant (GrantLine.Send 0 0 1 5 1) ∷ []
 
-abbrev pub programs_20 : Programs
-programs_20 = (0, Made.Command (Command.Send 0 (42 ∷ []) None) ∷ []) ∷ (1, Made.Await 0 ∷ Made.Command (Command.Fetch 0) ∷ []) ∷ []
+abbrev pub two_on_one_tile_programs : Programs
+two_on_one_tile_programs = (0, Made.Command (Command.Send 0 (42 ∷ []) None) ∷ []) ∷ (1, Made.Await 0 ∷ Made.Command (Command.Fetch 0) ∷ []) ∷ []
 
 abbrev pub entry : Event → Option Made → Said → Option ℕ → Entry
 entry e m s r = record { event = e; outcome = record { made = m; said = s; restore = r } }
 
-pub row_20 : (auto 20 (record { state = opening 64 setup_20; places = opening_places (0 ∷ 1 ∷ []) setup_20; programs = programs_20; entries = [] })).entries ≡ (
+pub two_on_one_tile : (auto 20 (record { state = opening 64 two_on_one_tile_setup; places = opening_places (0 ∷ 1 ∷ []) two_on_one_tile_setup; programs = two_on_one_tile_programs; entries = [] })).entries ≡ (
     entry (Event.Turn 0) (Some (Made.Command (Command.Send 0 (42 ∷ []) None))) (Said.Flying (id 0 1)) None
     ∷ entry (Event.Take 2 2) None (Said.Bounced (id 0 1)) None
     ∷ entry (Event.Take 0 2) None (Said.Held (id 0 1) 1) None
@@ -118,4 +118,4 @@ pub row_20 : (auto 20 (record { state = opening 64 setup_20; places = opening_pl
     ∷ entry (Event.Turn 1) (Some Made.End) Said.Ended None
     ∷ entry (Event.Take 0 2) None (Said.Yielded 1) None
     ∷ [])
-row_20 = refl
+two_on_one_tile = refl

@@ -1,4 +1,4 @@
--- Worked rows.
+-- Worked examples: what the places make of each event.
 use Rattle.std.specs.Prelude.{◌≡◌, ℕ, false, List, [], ◌∷◌, Option, Some, None}
 use Rattle.std.proofs.Common.{refl}
 use Rattle.m3_base.specs.declared.command.Command.{Command}
@@ -48,27 +48,27 @@ abbrev pub expected : List Entry → List (Option Outcome)
 expected [] = []
 expected (e ∷ es) = Some e.outcome ∷ expected es
 
-abbrev pub setup_1 : List SetupLine
-setup_1 =
+abbrev pub delivery_setup : List SetupLine
+delivery_setup =
     SetupLine.Act 0 2
     ∷ SetupLine.Act 1 3
     ∷ SetupLine.Grant (GrantLine.Recv 1 0 2 16)
     ∷ SetupLine.Grant (GrantLine.Send 0 0 1 7 2)
     ∷ []
 
-abbrev pub row_1 : List Entry
-row_1 =
+abbrev pub delivery : List Entry
+delivery =
     entry (Event.Do 0 (Command.Send 0 (104 ∷ 105 ∷ []) None)) (Said.Flying (id 0 1)) None
     ∷ entry (Event.Take 3 2) (Said.Landed (id 0 1)) None
     ∷ entry (Event.Take 2 3) (Said.Answered (id 0 1) Answer.Sent None) None
     ∷ entry (Event.Do 1 (Command.Fetch 0)) (Said.Message 0 0 7 (104 ∷ 105 ∷ [])) None
     ∷ []
 
-pub row_1_placed : outs (opening 16 setup_1) (opening_places [] setup_1) row_1 ≡ expected row_1
-row_1_placed = refl
+pub delivery_placed : outs (opening 16 delivery_setup) (opening_places [] delivery_setup) delivery ≡ expected delivery
+delivery_placed = refl
 
-abbrev pub setup_5 : List SetupLine
-setup_5 =
+abbrev pub full_buffer_setup : List SetupLine
+full_buffer_setup =
     SetupLine.Act 0 2
     ∷ SetupLine.Act 1 3
     ∷ SetupLine.Grant (GrantLine.Recv 1 0 2 16)
@@ -76,8 +76,8 @@ setup_5 =
     ∷ SetupLine.Grant (GrantLine.Send 0 1 1 8 2)
     ∷ []
 
-abbrev pub row_5 : List Entry
-row_5 =
+abbrev pub full_buffer : List Entry
+full_buffer =
     entry (Event.Do 0 (Command.Send 0 (1 ∷ []) None)) (Said.Flying (id 0 1)) None
     ∷ entry (Event.Take 3 2) (Said.Landed (id 0 1)) None
     ∷ entry (Event.Take 2 3) (Said.Answered (id 0 1) Answer.Sent None) None
@@ -89,11 +89,11 @@ row_5 =
     ∷ entry (Event.Take 2 3) (Said.Answered (id 0 3) (Answer.Refused Refusal.Full) None) None
     ∷ []
 
-pub row_5_placed : outs (opening 16 setup_5) (opening_places [] setup_5) row_5 ≡ expected row_5
-row_5_placed = refl
+pub full_buffer_placed : outs (opening 16 full_buffer_setup) (opening_places [] full_buffer_setup) full_buffer ≡ expected full_buffer
+full_buffer_placed = refl
 
-abbrev pub setup_6 : List SetupLine
-setup_6 =
+abbrev pub switch_keeps_unread_setup : List SetupLine
+switch_keeps_unread_setup =
     SetupLine.Act 0 2
     ∷ SetupLine.Act 1 3
     ∷ SetupLine.Act 2 3
@@ -101,8 +101,8 @@ setup_6 =
     ∷ SetupLine.Grant (GrantLine.Send 0 0 1 7 2)
     ∷ []
 
-abbrev pub row_6 : List Entry
-row_6 =
+abbrev pub switch_keeps_unread : List Entry
+switch_keeps_unread =
     entry (Event.Do 0 (Command.Send 0 (104 ∷ 105 ∷ []) None)) (Said.Flying (id 0 1)) None
     ∷ entry (Event.Take 3 2) (Said.Landed (id 0 1)) None
     ∷ entry (Event.Take 2 3) (Said.Answered (id 0 1) Answer.Sent None) None
@@ -117,11 +117,11 @@ row_6 =
     ∷ entry (Event.Do 1 (Command.Fetch 0)) (Said.Message 0 0 7 (104 ∷ 105 ∷ [])) None
     ∷ []
 
-pub row_6_placed : outs (opening 16 setup_6) (opening_places [] setup_6) row_6 ≡ expected row_6
-row_6_placed = refl
+pub switch_keeps_unread_placed : outs (opening 16 switch_keeps_unread_setup) (opening_places [] switch_keeps_unread_setup) switch_keeps_unread ≡ expected switch_keeps_unread
+switch_keeps_unread_placed = refl
 
-abbrev pub setup_7 : List SetupLine
-setup_7 =
+abbrev pub resting_receiver_setup : List SetupLine
+resting_receiver_setup =
     SetupLine.Act 0 2
     ∷ SetupLine.Act 1 3
     ∷ SetupLine.Act 2 3
@@ -129,8 +129,8 @@ setup_7 =
     ∷ SetupLine.Grant (GrantLine.Send 0 0 1 7 2)
     ∷ []
 
-abbrev pub row_7 : List Entry
-row_7 =
+abbrev pub resting_receiver : List Entry
+resting_receiver =
     entry (Event.Order (Order.Switch 3 2)) (Said.Save 1) None
     ∷ entry (Event.Take 3 0) (Said.Saving 1) None
     ∷ entry (Event.Take 0 3) (Said.Saved 1) (Some 2)
@@ -143,11 +143,11 @@ row_7 =
     ∷ entry (Event.Do 1 (Command.Fetch 0)) (Said.Idle IdleWhy.NotCurrent) None
     ∷ []
 
-pub row_7_placed : outs (opening 16 setup_7) (opening_places [] setup_7) row_7 ≡ expected row_7
-row_7_placed = refl
+pub resting_receiver_placed : outs (opening 16 resting_receiver_setup) (opening_places [] resting_receiver_setup) resting_receiver ≡ expected resting_receiver
+resting_receiver_placed = refl
 
-abbrev pub setup_8 : List SetupLine
-setup_8 =
+abbrev pub restore_waits_setup : List SetupLine
+restore_waits_setup =
     SetupLine.Act 0 2
     ∷ SetupLine.Act 1 3
     ∷ SetupLine.Act 2 3
@@ -155,8 +155,8 @@ setup_8 =
     ∷ SetupLine.Grant (GrantLine.Send 0 0 1 7 2)
     ∷ []
 
-abbrev pub row_8 : List Entry
-row_8 =
+abbrev pub restore_waits : List Entry
+restore_waits =
     entry (Event.Order (Order.Switch 3 2)) (Said.Save 1) None
     ∷ entry (Event.Take 3 0) (Said.Saving 1) None
     ∷ entry (Event.Take 0 3) (Said.Saved 1) (Some 2)
@@ -172,11 +172,11 @@ row_8 =
     ∷ entry (Event.Do 1 (Command.Fetch 0)) (Said.Message 0 0 7 (104 ∷ 105 ∷ [])) None
     ∷ []
 
-pub row_8_placed : outs (opening 16 setup_8) (opening_places [] setup_8) row_8 ≡ expected row_8
-row_8_placed = refl
+pub restore_waits_placed : outs (opening 16 restore_waits_setup) (opening_places [] restore_waits_setup) restore_waits ≡ expected restore_waits
+restore_waits_placed = refl
 
-abbrev pub setup_9 : List SetupLine
-setup_9 =
+abbrev pub sender_leaves_setup : List SetupLine
+sender_leaves_setup =
     SetupLine.Act 0 2
     ∷ SetupLine.Act 1 3
     ∷ SetupLine.Act 2 2
@@ -184,8 +184,8 @@ setup_9 =
     ∷ SetupLine.Grant (GrantLine.Send 0 0 1 7 2)
     ∷ []
 
-abbrev pub row_9 : List Entry
-row_9 =
+abbrev pub sender_leaves : List Entry
+sender_leaves =
     entry (Event.Do 0 (Command.Send 0 (104 ∷ 105 ∷ []) None)) (Said.Flying (id 0 1)) None
     ∷ entry (Event.Order (Order.Switch 2 2)) (Said.Save 0) None
     ∷ entry (Event.Take 3 2) (Said.Landed (id 0 1)) None
@@ -202,11 +202,11 @@ row_9 =
     ∷ entry (Event.Do 0 (Command.Send 0 (106 ∷ []) None)) (Said.Flying (id 0 2)) None
     ∷ []
 
-pub row_9_placed : outs (opening 16 setup_9) (opening_places [] setup_9) row_9 ≡ expected row_9
-row_9_placed = refl
+pub sender_leaves_placed : outs (opening 16 sender_leaves_setup) (opening_places [] sender_leaves_setup) sender_leaves ≡ expected sender_leaves
+sender_leaves_placed = refl
 
-abbrev pub setup_10 : List SetupLine
-setup_10 =
+abbrev pub idle_events_setup : List SetupLine
+idle_events_setup =
     SetupLine.Act 0 2
     ∷ SetupLine.Act 1 3
     ∷ SetupLine.Act 2 3
@@ -214,8 +214,8 @@ setup_10 =
     ∷ SetupLine.Grant (GrantLine.Send 0 0 1 7 2)
     ∷ []
 
-abbrev pub row_10 : List Entry
-row_10 =
+abbrev pub idle_events : List Entry
+idle_events =
     entry (Event.Do 1 (Command.Fetch 0)) (Said.Nothing) None
     ∷ entry (Event.Do 0 (Command.Send 0 (255 ∷ []) None)) (Said.Flying (id 0 1)) None
     ∷ entry (Event.Do 0 (Command.Send 0 (255 ∷ []) None)) (Said.Idle IdleWhy.Busy) None
@@ -230,11 +230,11 @@ row_10 =
     ∷ entry (Event.Order (Order.Switch 3 1)) (Said.No No.Leaving) None
     ∷ []
 
-pub row_10_placed : outs (opening 16 setup_10) (opening_places [] setup_10) row_10 ≡ expected row_10
-row_10_placed = refl
+pub idle_events_placed : outs (opening 16 idle_events_setup) (opening_places [] idle_events_setup) idle_events ≡ expected idle_events
+idle_events_placed = refl
 
-abbrev pub setup_11 : List SetupLine
-setup_11 =
+abbrev pub replies_setup : List SetupLine
+replies_setup =
     SetupLine.Act 0 2
     ∷ SetupLine.Act 1 3
     ∷ SetupLine.Grant (GrantLine.Recv 1 0 2 16)
@@ -242,8 +242,8 @@ setup_11 =
     ∷ SetupLine.Grant (GrantLine.Send 0 0 1 7 2)
     ∷ []
 
-abbrev pub row_11 : List Entry
-row_11 =
+abbrev pub replies : List Entry
+replies =
     entry (Event.Do 0 (Command.Send 0 (1 ∷ []) (Some 1))) (Said.Flying (id 0 1)) None
     ∷ entry (Event.Take 3 2) (Said.Landed (id 0 1)) None
     ∷ entry (Event.Take 2 3) (Said.Answered (id 0 1) Answer.Sent None) None
@@ -263,19 +263,19 @@ row_11 =
     ∷ entry (Event.Do 0 (Command.Fetch 1)) (Said.ReplyMessage 0 1 7 (170 ∷ [])) None
     ∷ []
 
-pub row_11_placed : outs (opening 16 setup_11) (opening_places [] setup_11) row_11 ≡ expected row_11
-row_11_placed = refl
+pub replies_placed : outs (opening 16 replies_setup) (opening_places [] replies_setup) replies ≡ expected replies
+replies_placed = refl
 
-abbrev pub setup_12 : List SetupLine
-setup_12 =
+abbrev pub late_credit_setup : List SetupLine
+late_credit_setup =
     SetupLine.Act 0 2
     ∷ SetupLine.Act 1 3
     ∷ SetupLine.Grant (GrantLine.Recv 1 0 2 16)
     ∷ SetupLine.Grant (GrantLine.Send 0 0 1 7 2)
     ∷ []
 
-abbrev pub row_12 : List Entry
-row_12 =
+abbrev pub late_credit : List Entry
+late_credit =
     entry (Event.Do 0 (Command.Send 0 (1 ∷ []) None)) (Said.Flying (id 0 1)) None
     ∷ entry (Event.Take 3 2) (Said.Landed (id 0 1)) None
     ∷ entry (Event.Take 2 3) (Said.Answered (id 0 1) Answer.Sent None) None
@@ -290,17 +290,17 @@ row_12 =
     ∷ entry (Event.Take 2 3) (Said.Discarded (id 1 1) 2) None
     ∷ []
 
-pub row_12_placed : outs (opening 16 setup_12) (opening_places [] setup_12) row_12 ≡ expected row_12
-row_12_placed = refl
+pub late_credit_placed : outs (opening 16 late_credit_setup) (opening_places [] late_credit_setup) late_credit ≡ expected late_credit
+late_credit_placed = refl
 
-abbrev pub setup_13 : List SetupLine
-setup_13 =
+abbrev pub memory_access_setup : List SetupLine
+memory_access_setup =
     SetupLine.Act 0 2
     ∷ SetupLine.Grant (GrantLine.Range 0 2 0 16 Perm.Rw)
     ∷ []
 
-abbrev pub row_13 : List Entry
-row_13 =
+abbrev pub memory_access : List Entry
+memory_access =
     entry (Event.Do 0 (Command.Write 2 15 (255 ∷ []))) (Said.Flying (id 0 1)) None
     ∷ entry (Event.Take 1 2) (Said.Landed (id 0 1)) None
     ∷ entry (Event.Take 2 1) (Said.Answered (id 0 1) Answer.Written None) None
@@ -311,17 +311,17 @@ row_13 =
     ∷ entry (Event.Take 2 1) (Said.Answered (id 0 2) (Answer.Bytes (0 ∷ 255 ∷ [])) None) None
     ∷ []
 
-pub row_13_placed : outs (opening 16 setup_13) (opening_places [] setup_13) row_13 ≡ expected row_13
-row_13_placed = refl
+pub memory_access_placed : outs (opening 16 memory_access_setup) (opening_places [] memory_access_setup) memory_access ≡ expected memory_access
+memory_access_placed = refl
 
-abbrev pub setup_14 : List SetupLine
-setup_14 =
+abbrev pub revoke_while_writing_setup : List SetupLine
+revoke_while_writing_setup =
     SetupLine.Act 0 2
     ∷ SetupLine.Grant (GrantLine.Range 0 2 0 16 Perm.Rw)
     ∷ []
 
-abbrev pub row_14 : List Entry
-row_14 =
+abbrev pub revoke_while_writing : List Entry
+revoke_while_writing =
     entry (Event.Do 0 (Command.Write 2 0 (171 ∷ []))) (Said.Flying (id 0 1)) None
     ∷ entry (Event.Order (Order.Revoke 1)) (Said.Revoking 1) None
     ∷ entry (Event.Close) (Said.CloseSent 1 (id 64 1) false) None
@@ -334,11 +334,11 @@ row_14 =
     ∷ entry (Event.Do 0 (Command.Write 2 0 (205 ∷ []))) (Said.Refused Refusal.NoEndpoint) None
     ∷ []
 
-pub row_14_placed : outs (opening 16 setup_14) (opening_places [] setup_14) row_14 ≡ expected row_14
-row_14_placed = refl
+pub revoke_while_writing_placed : outs (opening 16 revoke_while_writing_setup) (opening_places [] revoke_while_writing_setup) revoke_while_writing ≡ expected revoke_while_writing
+revoke_while_writing_placed = refl
 
-abbrev pub setup_15 : List SetupLine
-setup_15 =
+abbrev pub close_while_replying_setup : List SetupLine
+close_while_replying_setup =
     SetupLine.Act 0 2
     ∷ SetupLine.Act 1 3
     ∷ SetupLine.Grant (GrantLine.Recv 1 0 2 16)
@@ -346,8 +346,8 @@ setup_15 =
     ∷ SetupLine.Grant (GrantLine.Send 0 0 1 7 2)
     ∷ []
 
-abbrev pub row_15 : List Entry
-row_15 =
+abbrev pub close_while_replying : List Entry
+close_while_replying =
     entry (Event.Do 0 (Command.Send 0 (1 ∷ []) (Some 1))) (Said.Flying (id 0 1)) None
     ∷ entry (Event.Take 3 2) (Said.Landed (id 0 1)) None
     ∷ entry (Event.Take 2 3) (Said.Answered (id 0 1) Answer.Sent None) None
@@ -365,11 +365,11 @@ row_15 =
     ∷ entry (Event.Take 0 3) (Said.Done 1 (Some 1)) None
     ∷ []
 
-pub row_15_placed : outs (opening 16 setup_15) (opening_places [] setup_15) row_15 ≡ expected row_15
-row_15_placed = refl
+pub close_while_replying_placed : outs (opening 16 close_while_replying_setup) (opening_places [] close_while_replying_setup) close_while_replying ≡ expected close_while_replying
+close_while_replying_placed = refl
 
-abbrev pub setup_16 : List SetupLine
-setup_16 =
+abbrev pub children_first_setup : List SetupLine
+children_first_setup =
     SetupLine.Act 0 2
     ∷ SetupLine.Act 1 3
     ∷ SetupLine.Grant (GrantLine.Recv 1 0 2 16)
@@ -377,8 +377,8 @@ setup_16 =
     ∷ SetupLine.Grant (GrantLine.Send 0 1 1 8 1)
     ∷ []
 
-abbrev pub row_16 : List Entry
-row_16 =
+abbrev pub children_first : List Entry
+children_first =
     entry (Event.Order (Order.Revoke 2)) (Said.Revoking 2) None
     ∷ entry (Event.Order (Order.Revoke 1)) (Said.Revoking 1) None
     ∷ entry (Event.Order (Order.Revoke 2)) (Said.No No.Closing) None
@@ -395,11 +395,11 @@ row_16 =
     ∷ entry (Event.Order (Order.Grant (GrantLine.Send 0 0 1 7 1))) (Said.No No.NoGrant) None
     ∷ []
 
-pub row_16_placed : outs (opening 16 setup_16) (opening_places [] setup_16) row_16 ≡ expected row_16
-row_16_placed = refl
+pub children_first_placed : outs (opening 16 children_first_setup) (opening_places [] children_first_setup) children_first ≡ expected children_first
+children_first_placed = refl
 
-abbrev pub setup_17 : List SetupLine
-setup_17 =
+abbrev pub order_of_refusals_setup : List SetupLine
+order_of_refusals_setup =
     SetupLine.Act 0 2
     ∷ SetupLine.Act 1 3
     ∷ SetupLine.Grant (GrantLine.Recv 1 0 2 16)
@@ -407,8 +407,8 @@ setup_17 =
     ∷ SetupLine.Grant (GrantLine.Range 0 2 0 16 Perm.R)
     ∷ []
 
-abbrev pub row_17 : List Entry
-row_17 =
+abbrev pub order_of_refusals : List Entry
+order_of_refusals =
     entry (Event.Do 0 (Command.Write 2 0 (170 ∷ []))) (Said.Refused Refusal.NoPermission) None
     ∷ entry (Event.Do 0 (Command.Write 2 16 (170 ∷ []))) (Said.Refused Refusal.OutOfRange) None
     ∷ entry (Event.Do 0 (Command.Send 0 (1 ∷ []) (Some 5))) (Said.Refused Refusal.BadReplyEndpoint) None
@@ -423,17 +423,17 @@ row_17 =
     ∷ entry (Event.Do 1 (Command.Acknowledge 0 0)) (Said.Refused Refusal.NoSuchToken) None
     ∷ []
 
-pub row_17_placed : outs (opening 16 setup_17) (opening_places [] setup_17) row_17 ≡ expected row_17
-row_17_placed = refl
+pub order_of_refusals_placed : outs (opening 16 order_of_refusals_setup) (opening_places [] order_of_refusals_setup) order_of_refusals ≡ expected order_of_refusals
+order_of_refusals_placed = refl
 
-abbrev pub setup_18 : List SetupLine
-setup_18 =
+abbrev pub refused_grants_setup : List SetupLine
+refused_grants_setup =
     SetupLine.Act 0 2
     ∷ SetupLine.Grant (GrantLine.Range 0 0 0 64 Perm.R)
     ∷ []
 
-abbrev pub row_18 : List Entry
-row_18 =
+abbrev pub refused_grants : List Entry
+refused_grants =
     entry (Event.Order (Order.Grant (GrantLine.Part 0 1 1 32 33 Perm.R))) (Said.No No.OutsideParent) None
     ∷ entry (Event.Order (Order.Grant (GrantLine.Part 0 1 1 32 32 Perm.Rw))) (Said.No No.MorePermission) None
     ∷ entry (Event.Order (Order.Grant (GrantLine.Part 0 0 1 0 1 Perm.R))) (Said.No No.SlotTaken) None
@@ -442,5 +442,5 @@ row_18 =
     ∷ entry (Event.Take 2 0) (Said.Installed (id 64 1) 2) None
     ∷ []
 
-pub row_18_placed : outs (opening 16 setup_18) (opening_places [] setup_18) row_18 ≡ expected row_18
-row_18_placed = refl
+pub refused_grants_placed : outs (opening 16 refused_grants_setup) (opening_places [] refused_grants_setup) refused_grants ≡ expected refused_grants
+refused_grants_placed = refl

@@ -1,4 +1,4 @@
--- Worked rows.
+-- Worked examples: what the ideal steps of each entry say.
 use Rattle.std.specs.Prelude.{◌≡◌, ℕ, false, List, [], ◌∷◌, Option, Some, None}
 use Rattle.std.proofs.Common.{refl}
 use Rattle.m3_base.specs.declared.command.Command.{Command}
@@ -24,27 +24,27 @@ id a n = record { issuer = a; number = n }
 abbrev pub entry : Event → Said → Option ℕ → Entry
 entry e s r = record { event = e; outcome = record { made = None; said = s; restore = r } }
 
-abbrev pub setup_1 : List SetupLine
-setup_1 =
+abbrev pub delivery_setup : List SetupLine
+delivery_setup =
     SetupLine.Act 0 2
     ∷ SetupLine.Act 1 3
     ∷ SetupLine.Grant (GrantLine.Recv 1 0 2 16)
     ∷ SetupLine.Grant (GrantLine.Send 0 0 1 7 2)
     ∷ []
 
-abbrev pub row_1 : List Entry
-row_1 =
+abbrev pub delivery : List Entry
+delivery =
     entry (Event.Do 0 (Command.Send 0 (104 ∷ 105 ∷ []) None)) (Said.Flying (id 0 1)) None
     ∷ entry (Event.Take 3 2) (Said.Landed (id 0 1)) None
     ∷ entry (Event.Take 2 3) (Said.Answered (id 0 1) Answer.Sent None) None
     ∷ entry (Event.Do 1 (Command.Fetch 0)) (Said.Message 0 0 7 (104 ∷ 105 ∷ [])) None
     ∷ []
 
-pub row_1_says : sayings (opening 16 setup_1) row_1 ≡ outcomes row_1
-row_1_says = refl
+pub delivery_says : sayings (opening 16 delivery_setup) delivery ≡ outcomes delivery
+delivery_says = refl
 
-abbrev pub setup_5 : List SetupLine
-setup_5 =
+abbrev pub full_buffer_setup : List SetupLine
+full_buffer_setup =
     SetupLine.Act 0 2
     ∷ SetupLine.Act 1 3
     ∷ SetupLine.Grant (GrantLine.Recv 1 0 2 16)
@@ -52,8 +52,8 @@ setup_5 =
     ∷ SetupLine.Grant (GrantLine.Send 0 1 1 8 2)
     ∷ []
 
-abbrev pub row_5 : List Entry
-row_5 =
+abbrev pub full_buffer : List Entry
+full_buffer =
     entry (Event.Do 0 (Command.Send 0 (1 ∷ []) None)) (Said.Flying (id 0 1)) None
     ∷ entry (Event.Take 3 2) (Said.Landed (id 0 1)) None
     ∷ entry (Event.Take 2 3) (Said.Answered (id 0 1) Answer.Sent None) None
@@ -65,11 +65,11 @@ row_5 =
     ∷ entry (Event.Take 2 3) (Said.Answered (id 0 3) (Answer.Refused Refusal.Full) None) None
     ∷ []
 
-pub row_5_says : sayings (opening 16 setup_5) row_5 ≡ outcomes row_5
-row_5_says = refl
+pub full_buffer_says : sayings (opening 16 full_buffer_setup) full_buffer ≡ outcomes full_buffer
+full_buffer_says = refl
 
-abbrev pub setup_6 : List SetupLine
-setup_6 =
+abbrev pub switch_keeps_unread_setup : List SetupLine
+switch_keeps_unread_setup =
     SetupLine.Act 0 2
     ∷ SetupLine.Act 1 3
     ∷ SetupLine.Act 2 3
@@ -77,8 +77,8 @@ setup_6 =
     ∷ SetupLine.Grant (GrantLine.Send 0 0 1 7 2)
     ∷ []
 
-abbrev pub row_6 : List Entry
-row_6 =
+abbrev pub switch_keeps_unread : List Entry
+switch_keeps_unread =
     entry (Event.Do 0 (Command.Send 0 (104 ∷ 105 ∷ []) None)) (Said.Flying (id 0 1)) None
     ∷ entry (Event.Take 3 2) (Said.Landed (id 0 1)) None
     ∷ entry (Event.Take 2 3) (Said.Answered (id 0 1) Answer.Sent None) None
@@ -93,11 +93,11 @@ row_6 =
     ∷ entry (Event.Do 1 (Command.Fetch 0)) (Said.Message 0 0 7 (104 ∷ 105 ∷ [])) None
     ∷ []
 
-pub row_6_says : sayings (opening 16 setup_6) row_6 ≡ outcomes row_6
-row_6_says = refl
+pub switch_keeps_unread_says : sayings (opening 16 switch_keeps_unread_setup) switch_keeps_unread ≡ outcomes switch_keeps_unread
+switch_keeps_unread_says = refl
 
-abbrev pub setup_7 : List SetupLine
-setup_7 =
+abbrev pub resting_receiver_setup : List SetupLine
+resting_receiver_setup =
     SetupLine.Act 0 2
     ∷ SetupLine.Act 1 3
     ∷ SetupLine.Act 2 3
@@ -105,8 +105,8 @@ setup_7 =
     ∷ SetupLine.Grant (GrantLine.Send 0 0 1 7 2)
     ∷ []
 
-abbrev pub row_7 : List Entry
-row_7 =
+abbrev pub resting_receiver : List Entry
+resting_receiver =
     entry (Event.Order (Order.Switch 3 2)) (Said.Save 1) None
     ∷ entry (Event.Take 3 0) (Said.Saving 1) None
     ∷ entry (Event.Take 0 3) (Said.Saved 1) (Some 2)
@@ -119,11 +119,11 @@ row_7 =
     ∷ entry (Event.Do 1 (Command.Fetch 0)) (Said.Idle IdleWhy.NotCurrent) None
     ∷ []
 
-pub row_7_says : sayings (opening 16 setup_7) row_7 ≡ outcomes row_7
-row_7_says = refl
+pub resting_receiver_says : sayings (opening 16 resting_receiver_setup) resting_receiver ≡ outcomes resting_receiver
+resting_receiver_says = refl
 
-abbrev pub setup_8 : List SetupLine
-setup_8 =
+abbrev pub restore_waits_setup : List SetupLine
+restore_waits_setup =
     SetupLine.Act 0 2
     ∷ SetupLine.Act 1 3
     ∷ SetupLine.Act 2 3
@@ -131,8 +131,8 @@ setup_8 =
     ∷ SetupLine.Grant (GrantLine.Send 0 0 1 7 2)
     ∷ []
 
-abbrev pub row_8 : List Entry
-row_8 =
+abbrev pub restore_waits : List Entry
+restore_waits =
     entry (Event.Order (Order.Switch 3 2)) (Said.Save 1) None
     ∷ entry (Event.Take 3 0) (Said.Saving 1) None
     ∷ entry (Event.Take 0 3) (Said.Saved 1) (Some 2)
@@ -148,11 +148,11 @@ row_8 =
     ∷ entry (Event.Do 1 (Command.Fetch 0)) (Said.Message 0 0 7 (104 ∷ 105 ∷ [])) None
     ∷ []
 
-pub row_8_says : sayings (opening 16 setup_8) row_8 ≡ outcomes row_8
-row_8_says = refl
+pub restore_waits_says : sayings (opening 16 restore_waits_setup) restore_waits ≡ outcomes restore_waits
+restore_waits_says = refl
 
-abbrev pub setup_9 : List SetupLine
-setup_9 =
+abbrev pub sender_leaves_setup : List SetupLine
+sender_leaves_setup =
     SetupLine.Act 0 2
     ∷ SetupLine.Act 1 3
     ∷ SetupLine.Act 2 2
@@ -160,8 +160,8 @@ setup_9 =
     ∷ SetupLine.Grant (GrantLine.Send 0 0 1 7 2)
     ∷ []
 
-abbrev pub row_9 : List Entry
-row_9 =
+abbrev pub sender_leaves : List Entry
+sender_leaves =
     entry (Event.Do 0 (Command.Send 0 (104 ∷ 105 ∷ []) None)) (Said.Flying (id 0 1)) None
     ∷ entry (Event.Order (Order.Switch 2 2)) (Said.Save 0) None
     ∷ entry (Event.Take 3 2) (Said.Landed (id 0 1)) None
@@ -178,11 +178,11 @@ row_9 =
     ∷ entry (Event.Do 0 (Command.Send 0 (106 ∷ []) None)) (Said.Flying (id 0 2)) None
     ∷ []
 
-pub row_9_says : sayings (opening 16 setup_9) row_9 ≡ outcomes row_9
-row_9_says = refl
+pub sender_leaves_says : sayings (opening 16 sender_leaves_setup) sender_leaves ≡ outcomes sender_leaves
+sender_leaves_says = refl
 
-abbrev pub setup_11 : List SetupLine
-setup_11 =
+abbrev pub replies_setup : List SetupLine
+replies_setup =
     SetupLine.Act 0 2
     ∷ SetupLine.Act 1 3
     ∷ SetupLine.Grant (GrantLine.Recv 1 0 2 16)
@@ -190,8 +190,8 @@ setup_11 =
     ∷ SetupLine.Grant (GrantLine.Send 0 0 1 7 2)
     ∷ []
 
-abbrev pub row_11 : List Entry
-row_11 =
+abbrev pub replies : List Entry
+replies =
     entry (Event.Do 0 (Command.Send 0 (1 ∷ []) (Some 1))) (Said.Flying (id 0 1)) None
     ∷ entry (Event.Take 3 2) (Said.Landed (id 0 1)) None
     ∷ entry (Event.Take 2 3) (Said.Answered (id 0 1) Answer.Sent None) None
@@ -211,19 +211,19 @@ row_11 =
     ∷ entry (Event.Do 0 (Command.Fetch 1)) (Said.ReplyMessage 0 1 7 (170 ∷ [])) None
     ∷ []
 
-pub row_11_says : sayings (opening 16 setup_11) row_11 ≡ outcomes row_11
-row_11_says = refl
+pub replies_says : sayings (opening 16 replies_setup) replies ≡ outcomes replies
+replies_says = refl
 
-abbrev pub setup_12 : List SetupLine
-setup_12 =
+abbrev pub late_credit_setup : List SetupLine
+late_credit_setup =
     SetupLine.Act 0 2
     ∷ SetupLine.Act 1 3
     ∷ SetupLine.Grant (GrantLine.Recv 1 0 2 16)
     ∷ SetupLine.Grant (GrantLine.Send 0 0 1 7 2)
     ∷ []
 
-abbrev pub row_12 : List Entry
-row_12 =
+abbrev pub late_credit : List Entry
+late_credit =
     entry (Event.Do 0 (Command.Send 0 (1 ∷ []) None)) (Said.Flying (id 0 1)) None
     ∷ entry (Event.Take 3 2) (Said.Landed (id 0 1)) None
     ∷ entry (Event.Take 2 3) (Said.Answered (id 0 1) Answer.Sent None) None
@@ -238,17 +238,17 @@ row_12 =
     ∷ entry (Event.Take 2 3) (Said.Discarded (id 1 1) 2) None
     ∷ []
 
-pub row_12_says : sayings (opening 16 setup_12) row_12 ≡ outcomes row_12
-row_12_says = refl
+pub late_credit_says : sayings (opening 16 late_credit_setup) late_credit ≡ outcomes late_credit
+late_credit_says = refl
 
-abbrev pub setup_13 : List SetupLine
-setup_13 =
+abbrev pub memory_access_setup : List SetupLine
+memory_access_setup =
     SetupLine.Act 0 2
     ∷ SetupLine.Grant (GrantLine.Range 0 2 0 16 Perm.Rw)
     ∷ []
 
-abbrev pub row_13 : List Entry
-row_13 =
+abbrev pub memory_access : List Entry
+memory_access =
     entry (Event.Do 0 (Command.Write 2 15 (255 ∷ []))) (Said.Flying (id 0 1)) None
     ∷ entry (Event.Take 1 2) (Said.Landed (id 0 1)) None
     ∷ entry (Event.Take 2 1) (Said.Answered (id 0 1) Answer.Written None) None
@@ -259,17 +259,17 @@ row_13 =
     ∷ entry (Event.Take 2 1) (Said.Answered (id 0 2) (Answer.Bytes (0 ∷ 255 ∷ [])) None) None
     ∷ []
 
-pub row_13_says : sayings (opening 16 setup_13) row_13 ≡ outcomes row_13
-row_13_says = refl
+pub memory_access_says : sayings (opening 16 memory_access_setup) memory_access ≡ outcomes memory_access
+memory_access_says = refl
 
-abbrev pub setup_14 : List SetupLine
-setup_14 =
+abbrev pub revoke_while_writing_setup : List SetupLine
+revoke_while_writing_setup =
     SetupLine.Act 0 2
     ∷ SetupLine.Grant (GrantLine.Range 0 2 0 16 Perm.Rw)
     ∷ []
 
-abbrev pub row_14 : List Entry
-row_14 =
+abbrev pub revoke_while_writing : List Entry
+revoke_while_writing =
     entry (Event.Do 0 (Command.Write 2 0 (171 ∷ []))) (Said.Flying (id 0 1)) None
     ∷ entry (Event.Order (Order.Revoke 1)) (Said.Revoking 1) None
     ∷ entry (Event.Close) (Said.CloseSent 1 (id 64 1) false) None
@@ -282,11 +282,11 @@ row_14 =
     ∷ entry (Event.Do 0 (Command.Write 2 0 (205 ∷ []))) (Said.Refused Refusal.NoEndpoint) None
     ∷ []
 
-pub row_14_says : sayings (opening 16 setup_14) row_14 ≡ outcomes row_14
-row_14_says = refl
+pub revoke_while_writing_says : sayings (opening 16 revoke_while_writing_setup) revoke_while_writing ≡ outcomes revoke_while_writing
+revoke_while_writing_says = refl
 
-abbrev pub setup_15 : List SetupLine
-setup_15 =
+abbrev pub close_while_replying_setup : List SetupLine
+close_while_replying_setup =
     SetupLine.Act 0 2
     ∷ SetupLine.Act 1 3
     ∷ SetupLine.Grant (GrantLine.Recv 1 0 2 16)
@@ -294,8 +294,8 @@ setup_15 =
     ∷ SetupLine.Grant (GrantLine.Send 0 0 1 7 2)
     ∷ []
 
-abbrev pub row_15 : List Entry
-row_15 =
+abbrev pub close_while_replying : List Entry
+close_while_replying =
     entry (Event.Do 0 (Command.Send 0 (1 ∷ []) (Some 1))) (Said.Flying (id 0 1)) None
     ∷ entry (Event.Take 3 2) (Said.Landed (id 0 1)) None
     ∷ entry (Event.Take 2 3) (Said.Answered (id 0 1) Answer.Sent None) None
@@ -313,11 +313,11 @@ row_15 =
     ∷ entry (Event.Take 0 3) (Said.Done 1 (Some 1)) None
     ∷ []
 
-pub row_15_says : sayings (opening 16 setup_15) row_15 ≡ outcomes row_15
-row_15_says = refl
+pub close_while_replying_says : sayings (opening 16 close_while_replying_setup) close_while_replying ≡ outcomes close_while_replying
+close_while_replying_says = refl
 
-abbrev pub setup_16 : List SetupLine
-setup_16 =
+abbrev pub children_first_setup : List SetupLine
+children_first_setup =
     SetupLine.Act 0 2
     ∷ SetupLine.Act 1 3
     ∷ SetupLine.Grant (GrantLine.Recv 1 0 2 16)
@@ -325,8 +325,8 @@ setup_16 =
     ∷ SetupLine.Grant (GrantLine.Send 0 1 1 8 1)
     ∷ []
 
-abbrev pub row_16 : List Entry
-row_16 =
+abbrev pub children_first : List Entry
+children_first =
     entry (Event.Order (Order.Revoke 2)) (Said.Revoking 2) None
     ∷ entry (Event.Order (Order.Revoke 1)) (Said.Revoking 1) None
     ∷ entry (Event.Order (Order.Revoke 2)) (Said.No No.Closing) None
@@ -343,11 +343,11 @@ row_16 =
     ∷ entry (Event.Order (Order.Grant (GrantLine.Send 0 0 1 7 1))) (Said.No No.NoGrant) None
     ∷ []
 
-pub row_16_says : sayings (opening 16 setup_16) row_16 ≡ outcomes row_16
-row_16_says = refl
+pub children_first_says : sayings (opening 16 children_first_setup) children_first ≡ outcomes children_first
+children_first_says = refl
 
-abbrev pub setup_17 : List SetupLine
-setup_17 =
+abbrev pub order_of_refusals_setup : List SetupLine
+order_of_refusals_setup =
     SetupLine.Act 0 2
     ∷ SetupLine.Act 1 3
     ∷ SetupLine.Grant (GrantLine.Recv 1 0 2 16)
@@ -355,8 +355,8 @@ setup_17 =
     ∷ SetupLine.Grant (GrantLine.Range 0 2 0 16 Perm.R)
     ∷ []
 
-abbrev pub row_17 : List Entry
-row_17 =
+abbrev pub order_of_refusals : List Entry
+order_of_refusals =
     entry (Event.Do 0 (Command.Write 2 0 (170 ∷ []))) (Said.Refused Refusal.NoPermission) None
     ∷ entry (Event.Do 0 (Command.Write 2 16 (170 ∷ []))) (Said.Refused Refusal.OutOfRange) None
     ∷ entry (Event.Do 0 (Command.Send 0 (1 ∷ []) (Some 5))) (Said.Refused Refusal.BadReplyEndpoint) None
@@ -371,17 +371,17 @@ row_17 =
     ∷ entry (Event.Do 1 (Command.Acknowledge 0 0)) (Said.Refused Refusal.NoSuchToken) None
     ∷ []
 
-pub row_17_says : sayings (opening 16 setup_17) row_17 ≡ outcomes row_17
-row_17_says = refl
+pub order_of_refusals_says : sayings (opening 16 order_of_refusals_setup) order_of_refusals ≡ outcomes order_of_refusals
+order_of_refusals_says = refl
 
-abbrev pub setup_18 : List SetupLine
-setup_18 =
+abbrev pub refused_grants_setup : List SetupLine
+refused_grants_setup =
     SetupLine.Act 0 2
     ∷ SetupLine.Grant (GrantLine.Range 0 0 0 64 Perm.R)
     ∷ []
 
-abbrev pub row_18 : List Entry
-row_18 =
+abbrev pub refused_grants : List Entry
+refused_grants =
     entry (Event.Order (Order.Grant (GrantLine.Part 0 1 1 32 33 Perm.R))) (Said.No No.OutsideParent) None
     ∷ entry (Event.Order (Order.Grant (GrantLine.Part 0 1 1 32 32 Perm.Rw))) (Said.No No.MorePermission) None
     ∷ entry (Event.Order (Order.Grant (GrantLine.Part 0 0 1 0 1 Perm.R))) (Said.No No.SlotTaken) None
@@ -390,20 +390,20 @@ row_18 =
     ∷ entry (Event.Take 2 0) (Said.Installed (id 64 1) 2) None
     ∷ []
 
-pub row_18_says : sayings (opening 16 setup_18) row_18 ≡ outcomes row_18
-row_18_says = refl
+pub refused_grants_says : sayings (opening 16 refused_grants_setup) refused_grants ≡ outcomes refused_grants
+refused_grants_says = refl
 
-pub audit_1_2 : (held 2 (after (opening 16 setup_1) row_1) ∷ flying 2 (after (opening 16 setup_1) row_1) ∷ queued 2 (after (opening 16 setup_1) row_1) ∷ []) ≡ 1 ∷ 0 ∷ 1 ∷ []
-audit_1_2 = refl
+pub delivery_credits_2 : (held 2 (after (opening 16 delivery_setup) delivery) ∷ flying 2 (after (opening 16 delivery_setup) delivery) ∷ queued 2 (after (opening 16 delivery_setup) delivery) ∷ []) ≡ 1 ∷ 0 ∷ 1 ∷ []
+delivery_credits_2 = refl
 
-pub audit_5_2 : (held 2 (after (opening 16 setup_5) row_5) ∷ flying 2 (after (opening 16 setup_5) row_5) ∷ queued 2 (after (opening 16 setup_5) row_5) ∷ []) ≡ 1 ∷ 0 ∷ 1 ∷ []
-audit_5_2 = refl
+pub full_buffer_credits_2 : (held 2 (after (opening 16 full_buffer_setup) full_buffer) ∷ flying 2 (after (opening 16 full_buffer_setup) full_buffer) ∷ queued 2 (after (opening 16 full_buffer_setup) full_buffer) ∷ []) ≡ 1 ∷ 0 ∷ 1 ∷ []
+full_buffer_credits_2 = refl
 
-pub audit_5_3 : (held 3 (after (opening 16 setup_5) row_5) ∷ flying 3 (after (opening 16 setup_5) row_5) ∷ queued 3 (after (opening 16 setup_5) row_5) ∷ []) ≡ 1 ∷ 0 ∷ 1 ∷ []
-audit_5_3 = refl
+pub full_buffer_credits_3 : (held 3 (after (opening 16 full_buffer_setup) full_buffer) ∷ flying 3 (after (opening 16 full_buffer_setup) full_buffer) ∷ queued 3 (after (opening 16 full_buffer_setup) full_buffer) ∷ []) ≡ 1 ∷ 0 ∷ 1 ∷ []
+full_buffer_credits_3 = refl
 
-pub audit_11_3 : (held 3 (after (opening 16 setup_11) row_11) ∷ flying 3 (after (opening 16 setup_11) row_11) ∷ queued 3 (after (opening 16 setup_11) row_11) ∷ []) ≡ 2 ∷ 0 ∷ 0 ∷ []
-audit_11_3 = refl
+pub replies_credits_3 : (held 3 (after (opening 16 replies_setup) replies) ∷ flying 3 (after (opening 16 replies_setup) replies) ∷ queued 3 (after (opening 16 replies_setup) replies) ∷ []) ≡ 2 ∷ 0 ∷ 0 ∷ []
+replies_credits_3 = refl
 
-pub audit_12_3 : (held 3 (after (opening 16 setup_12) row_12) ∷ flying 3 (after (opening 16 setup_12) row_12) ∷ queued 3 (after (opening 16 setup_12) row_12) ∷ []) ≡ 1 ∷ 0 ∷ 0 ∷ []
-audit_12_3 = refl
+pub late_credit_credits_3 : (held 3 (after (opening 16 late_credit_setup) late_credit) ∷ flying 3 (after (opening 16 late_credit_setup) late_credit) ∷ queued 3 (after (opening 16 late_credit_setup) late_credit) ∷ []) ≡ 1 ∷ 0 ∷ 0 ∷ []
+late_credit_credits_3 = refl

@@ -4,11 +4,11 @@ use Rattle.m3_base.specs.declared.order.GrantLine.{GrantLine}
 use Rattle.m3_base.specs.declared.setup_line.SetupLine.{SetupLine}
 use Rattle.m3_base.specs.Credit.{credits}
 use Rattle.m3_base.specs.Opening.{opening}
-use Rattle.m3_base.specs.Rows.{setup_1}
+use Rattle.m3_base.specs.Rows.{delivery_setup}
 use Rattle.m3_laws.specs.Laws.{AllObey, empty}
 
 -- a setup of the worked rows obeys
-pub row_1_obeys : AllObey (empty 16) setup_1
+pub row_1_obeys : AllObey (empty 16) delivery_setup
 row_1_obeys = ((refl, omega arith), ((refl, omega arith), ((omega arith, (tt, refl)), ((omega arith, (tt, refl)), tt))))
 
 -- at an endpoint 16 a live grant with limit 2 has no credits

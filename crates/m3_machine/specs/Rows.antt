@@ -14,9 +14,9 @@ use Rattle.m3_base.specs.Places.{Places, pstep, opening_places}
 use Rattle.m3_base.specs.Places as places
 use Rattle.m3_base.specs.declared.event.Made.{Made}
 use Rattle.m3_base.specs.Driver.{next_event}
-use Rattle.m3_base.specs.AutoRows.{Programs, made_by, programs_after, setup_20, programs_20}
+use Rattle.m3_base.specs.AutoRows.{Programs, made_by, programs_after, two_on_one_tile_setup, two_on_one_tile_programs}
 use Rattle.m3_base.specs.AutoRows as driven
-use Rattle.m3_base.specs.PlacedRows.{expected, setup_1, row_1, setup_5, row_5, setup_6, row_6, setup_7, row_7, setup_8, row_8, setup_9, row_9, setup_10, row_10, setup_11, row_11, setup_12, row_12, setup_13, row_13, setup_14, row_14, setup_15, row_15, setup_16, row_16, setup_17, row_17, setup_18, row_18}
+use Rattle.m3_base.specs.PlacedRows.{expected, delivery_setup, delivery, full_buffer_setup, full_buffer, switch_keeps_unread_setup, switch_keeps_unread, resting_receiver_setup, resting_receiver, restore_waits_setup, restore_waits, sender_leaves_setup, sender_leaves, idle_events_setup, idle_events, replies_setup, replies, late_credit_setup, late_credit, memory_access_setup, memory_access, revoke_while_writing_setup, revoke_while_writing, close_while_replying_setup, close_while_replying, children_first_setup, children_first, order_of_refusals_setup, order_of_refusals, refused_grants_setup, refused_grants}
 use Rattle.m3_base.specs.declared.order.GrantLine.{GrantLine}
 use Rattle.m3_base.specs.declared.packet.Perm.{Perm}
 use Rattle.m3_base.specs.declared.command.Reply.{Reply}
@@ -55,50 +55,50 @@ pub record Row (memory : ℕ) (programs : List ℕ) (lines : List SetupLine) (en
   pub says : outs (site_of memory programs lines) (opened_machine memory programs lines) entries ≡ expected entries
   pub says_at : outs_at (site_of memory programs lines) (opened_machine memory programs lines) entries ≡ expected entries
 
-pub row_6_machine : Row 16 [] setup_6 row_6
-row_6_machine = record { opens = refl; stands = refl; says = refl; says_at = refl }
+pub switch_keeps_unread_machine : Row 16 [] switch_keeps_unread_setup switch_keeps_unread
+switch_keeps_unread_machine = record { opens = refl; stands = refl; says = refl; says_at = refl }
 
-pub row_1_machine : Row 16 [] setup_1 row_1
-row_1_machine = record { opens = refl; stands = refl; says = refl; says_at = refl }
+pub delivery_machine : Row 16 [] delivery_setup delivery
+delivery_machine = record { opens = refl; stands = refl; says = refl; says_at = refl }
 
-pub row_5_machine : Row 16 [] setup_5 row_5
-row_5_machine = record { opens = refl; stands = refl; says = refl; says_at = refl }
+pub full_buffer_machine : Row 16 [] full_buffer_setup full_buffer
+full_buffer_machine = record { opens = refl; stands = refl; says = refl; says_at = refl }
 
-pub row_7_machine : Row 16 [] setup_7 row_7
-row_7_machine = record { opens = refl; stands = refl; says = refl; says_at = refl }
+pub resting_receiver_machine : Row 16 [] resting_receiver_setup resting_receiver
+resting_receiver_machine = record { opens = refl; stands = refl; says = refl; says_at = refl }
 
-pub row_8_machine : Row 16 [] setup_8 row_8
-row_8_machine = record { opens = refl; stands = refl; says = refl; says_at = refl }
+pub restore_waits_machine : Row 16 [] restore_waits_setup restore_waits
+restore_waits_machine = record { opens = refl; stands = refl; says = refl; says_at = refl }
 
-pub row_9_machine : Row 16 [] setup_9 row_9
-row_9_machine = record { opens = refl; stands = refl; says = refl; says_at = refl }
+pub sender_leaves_machine : Row 16 [] sender_leaves_setup sender_leaves
+sender_leaves_machine = record { opens = refl; stands = refl; says = refl; says_at = refl }
 
-pub row_10_machine : Row 16 [] setup_10 row_10
-row_10_machine = record { opens = refl; stands = refl; says = refl; says_at = refl }
+pub idle_events_machine : Row 16 [] idle_events_setup idle_events
+idle_events_machine = record { opens = refl; stands = refl; says = refl; says_at = refl }
 
-pub row_11_machine : Row 16 [] setup_11 row_11
-row_11_machine = record { opens = refl; stands = refl; says = refl; says_at = refl }
+pub replies_machine : Row 16 [] replies_setup replies
+replies_machine = record { opens = refl; stands = refl; says = refl; says_at = refl }
 
-pub row_12_machine : Row 16 [] setup_12 row_12
-row_12_machine = record { opens = refl; stands = refl; says = refl; says_at = refl }
+pub late_credit_machine : Row 16 [] late_credit_setup late_credit
+late_credit_machine = record { opens = refl; stands = refl; says = refl; says_at = refl }
 
-pub row_13_machine : Row 16 [] setup_13 row_13
-row_13_machine = record { opens = refl; stands = refl; says = refl; says_at = refl }
+pub memory_access_machine : Row 16 [] memory_access_setup memory_access
+memory_access_machine = record { opens = refl; stands = refl; says = refl; says_at = refl }
 
-pub row_14_machine : Row 16 [] setup_14 row_14
-row_14_machine = record { opens = refl; stands = refl; says = refl; says_at = refl }
+pub revoke_while_writing_machine : Row 16 [] revoke_while_writing_setup revoke_while_writing
+revoke_while_writing_machine = record { opens = refl; stands = refl; says = refl; says_at = refl }
 
-pub row_15_machine : Row 16 [] setup_15 row_15
-row_15_machine = record { opens = refl; stands = refl; says = refl; says_at = refl }
+pub close_while_replying_machine : Row 16 [] close_while_replying_setup close_while_replying
+close_while_replying_machine = record { opens = refl; stands = refl; says = refl; says_at = refl }
 
-pub row_16_machine : Row 16 [] setup_16 row_16
-row_16_machine = record { opens = refl; stands = refl; says = refl; says_at = refl }
+pub children_first_machine : Row 16 [] children_first_setup children_first
+children_first_machine = record { opens = refl; stands = refl; says = refl; says_at = refl }
 
-pub row_17_machine : Row 16 [] setup_17 row_17
-row_17_machine = record { opens = refl; stands = refl; says = refl; says_at = refl }
+pub order_of_refusals_machine : Row 16 [] order_of_refusals_setup order_of_refusals
+order_of_refusals_machine = record { opens = refl; stands = refl; says = refl; says_at = refl }
 
-pub row_18_machine : Row 16 [] setup_18 row_18
-row_18_machine = record { opens = refl; stands = refl; says = refl; says_at = refl }
+pub refused_grants_machine : Row 16 [] refused_grants_setup refused_grants
+refused_grants_machine = record { opens = refl; stands = refl; says = refl; says_at = refl }
 
 -- ---- row 20, by the driver
 
@@ -124,8 +124,8 @@ abbrev pub auto : Site → ℕ → Driving → Driving
 auto h zero r = r
 auto h (suc n) r = auto h n (drives h r (next_event (at r.machine) (places_of h r.machine) []))
 
-abbrev pub row_20 : List Entry
-row_20 = (
+abbrev pub two_on_one_tile : List Entry
+two_on_one_tile = (
     driven.entry (Event.Turn 0) (Some (Made.Command (Command.Send 0 (42 ∷ []) None))) (Said.Flying (driven.id 0 1)) None
     ∷ driven.entry (Event.Take 2 2) None (Said.Bounced (driven.id 0 1)) None
     ∷ driven.entry (Event.Take 0 2) None (Said.Held (driven.id 0 1) 1) None
@@ -143,8 +143,8 @@ row_20 = (
     ∷ driven.entry (Event.Take 0 2) None (Said.Yielded 1) None
     ∷ [])
 
-pub row_20_machine : (auto (site_of 64 (0 ∷ 1 ∷ []) setup_20) 20 (record { machine = opened_machine 64 (0 ∷ 1 ∷ []) setup_20; programs = programs_20; entries = [] })).entries ≡ row_20
-row_20_machine = refl
+pub two_on_one_tile_machine : (auto (site_of 64 (0 ∷ 1 ∷ []) two_on_one_tile_setup) 20 (record { machine = opened_machine 64 (0 ∷ 1 ∷ []) two_on_one_tile_setup; programs = two_on_one_tile_programs; entries = [] })).entries ≡ two_on_one_tile
+two_on_one_tile_machine = refl
 
 -- ---- an answer that the kernel applied while its activity was away is seen by its program
 
