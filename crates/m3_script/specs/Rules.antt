@@ -1,6 +1,6 @@
 -- The rules of scripts that the lines before decide, beside those that every setup keeps.
-use Rattle.std.specs.Prelude.{ℕ, Bool, true, false, not, ◌&&◌, ◌||◌, ◌==◌, nat_lt, nat_le, List}
-use Rattle.std.specs.List.{list_any}
+use Rattle.std.specs.Prelude.{◌≡◌, ℕ, Bool, true, false, not, ◌&&◌, ◌||◌, ◌==◌, nat_lt, nat_le, List}
+use Rattle.std.specs.List.{list_any, All}
 use Rattle.m3_base.specs.declared.event.Event.{Event}
 use Rattle.m3_base.specs.declared.order.Order.{Order}
 use Rattle.m3_base.specs.declared.order.FileLine.{FileLine}
@@ -63,3 +63,7 @@ misses (Event.Tend a) x = is_absent a x
 misses Event.Close x = false
 misses (Event.Order order) x = order_misses order x
 misses (Event.File line) x = file_misses line x
+
+-- each event names what the setup has
+abbrev pub AllNamed : SetupValue → List Event → Type 0
+AllNamed x events = All (λ e. misses e x ≡ false) events

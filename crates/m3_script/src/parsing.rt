@@ -1,6 +1,7 @@
 //! Bytes as a script.
 
-ghost use Rattle.std.specs.Prelude.{◌≡◌, ◌≤◌, length};
+ghost use Rattle.std.specs.Prelude.{◌≡◌, ◌≤◌, length, IfOk};
+ghost use Rattle.m3_script.specs.Rules.{AllNamed};
 ghost use Rattle.m3_script.specs.Scripts.{script_of, ended};
 ghost use Rattle.m3_script.specs.Steps.{Parses, refusal, state};
 
@@ -14,6 +15,7 @@ use std::alloc::Global;
 pub fn parse(alloc: Global, bytes: &[u8], mode: Mode, boxes: u32) -> Result<Script, ScriptRefusal>
     requires limit { length bytes.now ≤ 67108864 }
     ensures exact { Parses result (script_of mode boxes bytes.now) }
+    ensures named { IfOk result (λ s. AllNamed s.setup s.events.items) }
 {
     let frame = Frame { mode, boxes };
     let mut progress = Progress::Nothing;

@@ -1,13 +1,15 @@
 use Rattle.std.proofs.Common.{arith}
 use Rattle.m3_script.specs.Scripts.{script_of}
-use Rattle.m3_script.specs.Steps.{state}
+use Rattle.m3_script.specs.Steps.{Parses, state}
 use Rattle.m3_script.proofs.Loop.{goes_on, is_refused, at_end}
+use Rattle.m3_script.proofs.Kept.{named_of}
 use Rattle.m3_script.proofs.parsing.parse.Goals as goal
 
 pub returns-in-Err : goal.returns-in-Err
 returns-in-Err c = record {
   exact = rw c.refusal.ensures (is_refused c.args.mode c.args.boxes c.loop-rest.rest.now c.cut_line.result.0.now c.cut_line.result.1.now (state c.loop-rest.progress) c.loop-rest.line c.in-Err.error
       (script_of c.args.mode c.args.boxes c.args.bytes.now) c.cut_line.ensures.line c.in-Err.ensures c.loop-rest.invariant.reads);
+  named = tt;
 }
 
 pub loop-rest-preserved : goal.loop-rest-preserved
@@ -18,6 +20,6 @@ loop-rest-preserved c = record {
 }
 
 pub returns : goal.returns
-returns c = record {
-  exact = rw (at_end c.args.mode c.args.boxes c.loop-rest.rest.now (state c.loop-rest.progress) c.loop-rest.line (script_of c.args.mode c.args.boxes c.args.bytes.now) c.loop-rest-test.ensures c.loop-rest.invariant.reads) c.finish.ensures;
-}
+returns c =
+    let exact : Parses c.finish.result (script_of c.args.mode c.args.boxes c.args.bytes.now) = rw (at_end c.args.mode c.args.boxes c.loop-rest.rest.now (state c.loop-rest.progress) c.loop-rest.line (script_of c.args.mode c.args.boxes c.args.bytes.now) c.loop-rest-test.ensures c.loop-rest.invariant.reads) c.finish.ensures in
+    record { exact = exact; named = named_of c.args.mode c.args.boxes c.args.bytes.now c.finish.result exact }
