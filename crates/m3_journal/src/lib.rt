@@ -11,3 +11,6 @@ mod outcomes;
 mod setups;
 
 pub use journals::print;
+
+#[cfg(test)]
+mod tests;

@@ -5,9 +5,8 @@ use Rattle.m3_base.specs.declared.event.Event.{Event}
 use Rattle.m3_base.specs.declared.order.Order.{Order}
 use Rattle.m3_base.specs.declared.order.FileLine.{FileLine}
 use Rattle.m3_base.specs.declared.setup_line.SetupLine.{SetupLine}
-use Rattle.m3_base.specs.declared.setup_line.ProgramKind.{ProgramKind}
 use Rattle.m3_base.specs.State.{holder}
-use Rattle.m3_base.specs.Setup.{SetupValue, facts_of, is_undeclared, program_in}
+use Rattle.m3_base.specs.Setup.{SetupValue, facts_of, is_undeclared, is_programmed, program_in}
 use Rattle.m3_script.specs.declared.script.Mode.{Mode}
 
 -- ---- setup lines
@@ -27,10 +26,6 @@ lacks_logic boxes (SetupLine.Boxed a logic fuel) = nat_le boxes logic
 lacks_logic boxes line = false
 
 -- ---- events
-
-abbrev pub is_programmed : ProgramKind → Bool
-is_programmed ProgramKind.Absent = false
-is_programmed kind = true
 
 abbrev pub has_program : ℕ → SetupValue → Bool
 has_program a x = is_programmed (program_in (facts_of x).programs a)

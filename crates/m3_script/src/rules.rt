@@ -2,7 +2,7 @@
 
 ghost use Rattle.std.specs.Prelude.{◌≡◌, nat_lt};
 ghost use Rattle.std.specs.List.{list_any};
-ghost use Rattle.m3_script.specs.Rules.{lives_on, shares_tile, lacks_logic, is_programmed, has_program, is_absent, is_allowed, order_misses, file_misses, misses};
+ghost use Rattle.m3_script.specs.Rules.{lives_on, shares_tile, lacks_logic, has_program, is_absent, is_allowed, order_misses, file_misses, misses};
 
 use crate::script::Mode;
 use m3_base::event::Event;
