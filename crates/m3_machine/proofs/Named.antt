@@ -78,7 +78,7 @@ module _ (h : Site) where
       let d = fetched_marked false t r.fetched in
       grind (arith, a, b, d)
 
-  opened_named : (f : Fresh) → list_all (is_home h) (acts_in_form f) ≡ true → names_at h (opened f) ≡ true
+  pub opened_named : (f : Fresh) → list_all (is_home h) (acts_in_form f) ≡ true → names_at h (opened f) ≡ true
   opened_named (Fresh.Send grant to to_ep to_grant label size limit) a = grind (arith, a)
   opened_named (Fresh.Receive grant slots size) a = refl
   opened_named (Fresh.Memory grant start length perm) a = refl
