@@ -1,0 +1,124 @@
+-- At opening the activities are seated one after the other.
+use Rattle.std.proofs.Common.{◌≡◌, ◌≢◌, ℕ, zero, suc, ◌+◌, ◌*◌, ◌<◌, ◌≤◌, Bool, true, false, cond, List, [], ◌∷◌, ◌++◌, Some, None, refl, sym, subst, ◌∙◌, ap, arith, append_assoc, append-nil, set, get_or, length, map, replicate, Option, ◌⊎◌, inl, inr}
+use Rattle.std.specs.Prelude.{if◌then◌else◌, ◌==◌, not, ◌&&◌, ◌||◌, is_some}
+use Rattle.std.specs.List.{list_all, list_any}
+use Rattle.std.proofs.lemmas.Bool.Decides.{nat_tests}
+use Rattle.std.proofs.lemmas.List.{map-append, map-set, get_or-map, set-get_or}
+use Rattle.m3_base.specs.Keyed as keyed
+use Rattle.m3_base.specs.Sums.{one, how_many}
+use Rattle.m3_base.specs.Context.{Context}
+use Rattle.m3_base.specs.State.{State, context_of, new_context_in, same_act}
+use Rattle.m3_base.specs.Places as places
+use Rattle.m3_base.specs.Places.{Places, Actor}
+use Rattle.m3_merge.specs.Parts.{Each}
+use Rattle.m3_merge.proofs.Merged.{each_append, each_map}
+use Rattle.m3_merge.proofs.Stamps.{each_front, each_back}
+use Rattle.m3_machine.specs.Parts.{Home, Site, home_act, home_of, tile_of, tile_in, Parcel, Stay, Tile, Away, Seating, Is_placed, Is_leaving, Is_resting, Is_coming, Seat, Kernel}
+use Rattle.m3_machine.specs.Naming.{is_home, is_named_context}
+use Rattle.m3_machine.specs.Tile.{stay_act, stay_of, act_in}
+use Rattle.m3_machine.specs.Kernel.{seat_act, seat_of, placed_at, is_placed_seat}
+use Rattle.m3_machine.specs.Machine.{Machine, empty_tile, tile_at, new_stay, first_there, opened_seating, joined_ready, is_there, seated_at_opening}
+use Rattle.m3_machine.specs.At.{each, on_links, as_list, here, away, contexts_in, all_contexts, by_act, actor_in, actor_by, current_act, token, places_of}
+use Rattle.m3_machine.specs.Sound.{ActsApart, IsThere, LivesAt, act_of_seat, placed_on, is_placed_at, has_home}
+use Rattle.m3_machine.proofs.Inserts.{Inserts, inserts_left, inserts_right, around_set, fills, alike, each-append}
+use Rattle.m3_machine.proofs.Moved.{by_act-inserts, by_act-middle, length-set}
+use Rattle.m3_machine.proofs.Saving.{apart-by_act, tokens}
+use Rattle.m3_machine.proofs.Switching.{apart_add}
+use Rattle.m3_machine.proofs.Sets.{get_or-set, how_many-append}
+use Rattle.m3_machine.proofs.Changed.{map-same}
+use Rattle.m3_machine.proofs.Lines.{home_in, its_context, acts_back}
+
+-- ---- lists by key that grow at the back
+
+module _ {X : Type 0} (key : X → ℕ) where
+  at_key : ℕ → List X → Option X
+  at_key = keyed.find key same_act
+
+  pub find_before : (a : ℕ) (xs : List X) (x y : X) → keyed.find key same_act a xs ≡ Some y → keyed.find key same_act a (xs ++ x ∷ []) ≡ Some y
+  find_before a [] x y e = absurd (cc)
+  find_before a (z ∷ xs) x y e = let r = find_before a xs x y in grind (arith, e, r)
+
+  pub find_last : (a : ℕ) (xs : List X) (x : X) → keyed.find key same_act a xs ≡ None → a ≡ key x → keyed.find key same_act a (xs ++ x ∷ []) ≡ Some x
+  find_last a [] x e k = grind (arith, nat_tests, k)
+  find_last a (z ∷ xs) x e k = let r = find_last a xs x in grind (arith, e, k, r)
+
+  pub find_none : (a : ℕ) (xs : List X) (x : X) → keyed.find key same_act a xs ≡ None → (a == key x) ≡ false → keyed.find key same_act a (xs ++ x ∷ []) ≡ None
+  find_none a [] x e d = grind (arith, nat_tests, d)
+  find_none a (z ∷ xs) x e d = let r = find_none a xs x in grind (arith, e, d, r)
+
+any-append : {X : Type 0} (p : X → Bool) (xs : List X) (x : X) → list_any p (xs ++ x ∷ []) ≡ (list_any p xs || p x)
+any-append p [] x = grind arith
+any-append p (y ∷ xs) x = let r = any-append p xs x in grind (arith, r)
+
+home_parts : (a : ℕ) (ds : List Home) (x : Home) → home_in a (ds ++ x ∷ []) ≡ None → (home_in a ds ≡ None) × ((a == x.act) ≡ false)
+home_parts a [] x e = (refl, grind (arith, nat_tests, e))
+home_parts a (y ∷ ds) x e = let r = home_parts a ds x in (grind (arith, nat_tests, e, r), grind (arith, nat_tests, e, r))
+
+-- ---- the machine with some homes seated
+
+abbrev pub OpenSeating : ℕ → Seating → Type 0
+OpenSeating a Is_placed = Unit {0}
+OpenSeating a Is_leaving = ⊥
+OpenSeating a (Is_resting y) = (y.context.act ≡ a) × (y.ended ≡ false)
+OpenSeating a (Is_coming y) = ⊥
+
+abbrev pub OpenSeat : Seat → Type 0
+OpenSeat x = (x.hold ≡ []) × OpenSeating x.act x.seating
+
+-- one more home, as the places have it
+abbrev pub place_home : Places → Home → Places
+place_home p x =
+    let taken = list_any (λ y. y.home == x.tile) p.actors in
+    places.join_ready (taken && x.has_program) x.tile x.act (
+    record p {
+      current = if taken then p.current else set p.current x.tile (Some x.act);
+      actors = p.actors ++ places.opened_actor x.act x.tile (places.place_at_opening x.tile p.actors) x.has_program ∷ [];
+    }
+    )
+
+abbrev pub place_homes : Places → List Home → Places
+place_homes p [] = p
+place_homes p (x ∷ xs) = place_homes (place_home p x) xs
+
+pub record SeatedSoFar (h : Site) (s : State) (ds : List Home) (m : Machine) : Type 0 where
+  pub tiles : length m.tiles ≡ 16
+  pub readies : length m.kernel.ready ≡ 16
+  pub memory : m.memory ≡ s.memory
+  pub links : m.links ≡ replicate 256 []
+  pub next : m.kernel.next ≡ s.kernel_next
+  pub grants : m.kernel.grants ≡ s.grants
+  pub number : (t : ℕ) → t < 16 → (tile_at t m).tile ≡ t
+  pub seats : map seat_act m.kernel.seats ≡ map home_act ds
+  pub seated : Each (λ y. IsThere (seat_of y.act m.kernel)) ds
+  pub unseated : (a : ℕ) → home_in a ds ≡ None → seat_of a m.kernel ≡ None
+  pub opens : Each OpenSeat m.kernel.seats
+  pub contexts : by_act (all_contexts m) ≡ by_act (map (its_context s.contexts) ds)
+  pub acts : ActsApart (all_contexts m)
+  pub named : Each (λ c. is_named_context h c ≡ true) (all_contexts m)
+  pub stays : Each (λ y. stay_of y.act (tile_at y.tile m) ≡ Some (new_stay y.act)) ds
+  pub unstayed : (a t : ℕ) → home_in a ds ≡ None → stay_of a (tile_at t m) ≡ None
+  pub unready : (a t : ℕ) → home_in a ds ≡ None → list_any (λ b. b == a) (get_or m.kernel.ready t []) ≡ false
+  pub taken : (t : ℕ) → is_there (tile_at t m).current ≡ has_home t ds
+  pub current : (t : ℕ) (c : Context) → (tile_at t m).current ≡ Some c → LivesAt h t c.act
+  pub placed : (t : ℕ) → act_in (tile_at t m).current ≡ placed_on h t m.kernel
+  pub filled : (t : ℕ) → how_many (is_placed_at h t) m.kernel.seats ≡ one (has_home t ds)
+
+-- ---- one more
+
+apart_joins : (c : Context) (xs ys : List Context) → Inserts c xs ys → context_of c.act xs ≡ None → ActsApart xs → ActsApart ys
+apart_joins c xs ys i e a =
+    subst ActsApart (sym i.whole) (apart_add i.front c i.back (subst (λ l. context_of c.act l ≡ None) i.without e) (subst ActsApart i.without a))
+
+each_joins : (P : Context → Type 0) (c : Context) (xs ys : List Context) → Inserts c xs ys → P c → Each P xs → Each P ys
+each_joins P c xs ys i k e =
+    let f = subst (Each P) i.without e in
+    subst (Each P) (sym i.whole) (each_append P i.front (c ∷ i.back) (each_front P i.front i.back f) (k, each_back P i.front i.back f))
+
+placed-append : (h : Site) (t : ℕ) (xs : List Seat) (z : Seat) (o : Option Seat) → placed_at h t xs ≡ o → placed_at h t (xs ++ z ∷ []) ≡ (cond (is_some o) o (if is_placed_at h t z then Some z else None))
+placed-append h t [] z o e = let k : None ≡ o = e in subst (λ o. placed_at h t (z ∷ []) ≡ (cond (is_some o) o (if is_placed_at h t z then Some z else None))) k refl
+placed-append h t (x ∷ xs) z o e = by_test (is_placed_at h t x) e (placed-append h t xs z o)
+  where
+    by_test : (b : Bool) → cond b (Some x) (placed_at h t xs) ≡ o → (placed_at h t xs ≡ o → placed_at h t (xs ++ z ∷ []) ≡ (cond (is_some o) o (if is_placed_at h t z then Some z else None)))
+        → cond b (Some x) (placed_at h t (xs ++ z ∷ [])) ≡ (cond (is_some o) o (if is_placed_at h t z then Some z else None))
+    by_test true e ih = subst (λ o. Some x ≡ (cond (is_some o) o (if is_placed_at h t z then Some z else None))) e refl
+    by_test false e ih = ih e
