@@ -46,11 +46,11 @@ module _ {X : Type 0} (key : X → ℕ) where
   find_none a [] x e d = grind (arith, nat_tests, d)
   find_none a (z ∷ xs) x e d = let r = find_none a xs x in grind (arith, e, d, r)
 
-any-append : {X : Type 0} (p : X → Bool) (xs : List X) (x : X) → list_any p (xs ++ x ∷ []) ≡ (list_any p xs || p x)
+pub any-append : {X : Type 0} (p : X → Bool) (xs : List X) (x : X) → list_any p (xs ++ x ∷ []) ≡ (list_any p xs || p x)
 any-append p [] x = grind arith
 any-append p (y ∷ xs) x = let r = any-append p xs x in grind (arith, r)
 
-home_parts : (a : ℕ) (ds : List Home) (x : Home) → home_in a (ds ++ x ∷ []) ≡ None → (home_in a ds ≡ None) × ((a == x.act) ≡ false)
+pub home_parts : (a : ℕ) (ds : List Home) (x : Home) → home_in a (ds ++ x ∷ []) ≡ None → (home_in a ds ≡ None) × ((a == x.act) ≡ false)
 home_parts a [] x e = (refl, grind (arith, nat_tests, e))
 home_parts a (y ∷ ds) x e = let r = home_parts a ds x in (grind (arith, nat_tests, e, r), grind (arith, nat_tests, e, r))
 
@@ -105,16 +105,16 @@ pub record SeatedSoFar (h : Site) (s : State) (ds : List Home) (m : Machine) : T
 
 -- ---- one more
 
-apart_joins : (c : Context) (xs ys : List Context) → Inserts c xs ys → context_of c.act xs ≡ None → ActsApart xs → ActsApart ys
+pub apart_joins : (c : Context) (xs ys : List Context) → Inserts c xs ys → context_of c.act xs ≡ None → ActsApart xs → ActsApart ys
 apart_joins c xs ys i e a =
     subst ActsApart (sym i.whole) (apart_add i.front c i.back (subst (λ l. context_of c.act l ≡ None) i.without e) (subst ActsApart i.without a))
 
-each_joins : (P : Context → Type 0) (c : Context) (xs ys : List Context) → Inserts c xs ys → P c → Each P xs → Each P ys
+pub each_joins : (P : Context → Type 0) (c : Context) (xs ys : List Context) → Inserts c xs ys → P c → Each P xs → Each P ys
 each_joins P c xs ys i k e =
     let f = subst (Each P) i.without e in
     subst (Each P) (sym i.whole) (each_append P i.front (c ∷ i.back) (each_front P i.front i.back f) (k, each_back P i.front i.back f))
 
-placed-append : (h : Site) (t : ℕ) (xs : List Seat) (z : Seat) (o : Option Seat) → placed_at h t xs ≡ o → placed_at h t (xs ++ z ∷ []) ≡ (cond (is_some o) o (if is_placed_at h t z then Some z else None))
+pub placed-append : (h : Site) (t : ℕ) (xs : List Seat) (z : Seat) (o : Option Seat) → placed_at h t xs ≡ o → placed_at h t (xs ++ z ∷ []) ≡ (cond (is_some o) o (if is_placed_at h t z then Some z else None))
 placed-append h t [] z o e = let k : None ≡ o = e in subst (λ o. placed_at h t (z ∷ []) ≡ (cond (is_some o) o (if is_placed_at h t z then Some z else None))) k refl
 placed-append h t (x ∷ xs) z o e = by_test (is_placed_at h t x) e (placed-append h t xs z o)
   where
