@@ -260,3 +260,6 @@ module _ (h : Site) (s : State) (ds : List Home) (l : Along h s ds) (line : Gran
               let g : Some d ≡ Some y = sym (found_put a d c s.contexts f z) ∙ k in
               let eq : d ≡ y = cc in
               subst (λ w. is_named_context h w ≡ true) eq n
+
+  pub grant_along : Along h (with_line s (SetupLine.Grant line)) ds
+  grant_along = grant_by (form (length s.grants + 1) line (parent_in s.grants (parent_of line))) refl

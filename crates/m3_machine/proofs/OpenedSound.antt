@@ -1,0 +1,321 @@
+-- A setup's machine opens sound, as the ideal machine and the places open.
+use Rattle.std.proofs.Common.{◌≡◌, ◌≢◌, ℕ, zero, suc, ◌+◌, ◌*◌, ◌<◌, ◌≤◌, Bool, true, false, cond, List, [], ◌∷◌, ◌++◌, Some, None, refl, sym, subst, ◌∙◌, ap, arith, append_assoc, append-nil, set, get_or, length, map, replicate, Option, ◌⊎◌, inl, inr}
+use Rattle.std.specs.Prelude.{if◌then◌else◌, ◌==◌, not, ◌&&◌, ◌||◌, is_some}
+use Rattle.std.specs.List.{list_all, list_any}
+use Rattle.std.proofs.lemmas.Bool.Decides.{nat_tests}
+use Rattle.std.proofs.lemmas.List.{map-append, map-set, get_or-map, set-get_or}
+use Rattle.m3_base.specs.declared.packet.Packet.{Packet}
+use Rattle.m3_base.specs.declared.setup_line.SetupLine.{SetupLine}
+use Rattle.m3_base.specs.Keyed as keyed
+use Rattle.m3_base.specs.Sums.{one, how_many}
+use Rattle.m3_base.specs.Context.{Context}
+use Rattle.m3_base.specs.State.{State, context_of, new_context_in, same_act}
+use Rattle.m3_base.specs.Places as places
+use Rattle.m3_base.specs.Places.{Places, Actor}
+use Rattle.m3_merge.specs.Parts.{Each}
+use Rattle.m3_merge.proofs.Merged.{each_append, each_map}
+use Rattle.m3_merge.proofs.Stamps.{each_front, each_back}
+use Rattle.m3_machine.specs.Parts.{Home, Site, home_act, home_of, tile_of, tile_in, Parcel, Stay, Tile, Away, Seating, Is_placed, Is_leaving, Is_resting, Is_coming, Seat, Kernel}
+use Rattle.m3_machine.specs.Naming.{is_home, is_named_context}
+use Rattle.m3_machine.specs.Tile.{stay_act, stay_of, act_in}
+use Rattle.m3_machine.specs.Kernel.{seat_act, seat_of, placed_at, is_placed_seat}
+use Rattle.m3_machine.specs.Machine.{Machine, empty_tile, tile_at, new_stay, first_there, opened_seating, joined_ready, is_there, seated_at_opening, with_seats}
+use Rattle.m3_machine.specs.At.{each, on_links, as_list, here, away, contexts_in, all_contexts, by_act, actor_in, actor_by, current_act, token, places_of}
+use Rattle.m3_machine.specs.Sound.{ActsApart, IsThere, LivesAt, act_of_seat, placed_on, is_placed_at, has_home}
+use Rattle.m3_machine.proofs.Inserts.{Inserts, inserts_left, inserts_right, around_set, fills, alike, each-append}
+use Rattle.m3_machine.proofs.Moved.{by_act-inserts, by_act-middle, length-set}
+use Rattle.m3_machine.proofs.Saving.{apart-by_act, tokens}
+use Rattle.m3_machine.proofs.Switching.{apart_add}
+use Rattle.m3_machine.proofs.Sets.{get_or-set, how_many-append}
+use Rattle.m3_machine.proofs.Changed.{map-same}
+use Rattle.m3_machine.proofs.Lines.{home_in, its_context, acts_back}
+use Rattle.m3_machine.proofs.Seating.{find_before, find_last, find_none, any-append, home_parts, OpenSeating, OpenSeat, place_home, place_homes, SeatedSoFar, apart_joins, each_joins, placed-append}
+use Rattle.m3_machine.specs.Sound.{HomesApart}
+use Rattle.m3_machine.proofs.Lines.{Has, its_is}
+use Rattle.m3_machine.proofs.Along.{Along}
+use Rattle.m3_machine.proofs.SeatedOne.{seated_one, seat_step}
+use Rattle.m3_base.specs.Sums.{total}
+use Rattle.m3_base.specs.State.{Grant, grant_in, holder}
+use Rattle.m3_base.specs.Obeys.{AllObey}
+use Rattle.m3_base.specs.Opening.{with_line, with_lines, opening}
+use Rattle.m3_machine.specs.Kernel.{is_leaving_seat, is_leaving_at, is_coming_seat}
+use Rattle.m3_machine.specs.Machine.{with_home, site_of, empty_tiles, link_at, seated_all, opened_machine}
+use Rattle.m3_machine.specs.Machine as machine
+use Rattle.m3_machine.specs.At.{held_by, packets_in, closed_in, all_packets, all_closed, by_name, is_in, closed_from, closed_if, at}
+use Rattle.m3_machine.specs.Sound.{NamesApart, ClosedApart, IsShut, At, Walks, IsSetup, IsHoused, IsSeated, IsSound, ParcelOk, Orderly, SeatOk, HeldOk, EndedAs, stay_at, of_act, leavings, is_leaving_of, is_coming_at}
+use Rattle.m3_machine.proofs.Along.{act_along, grant_along}
+use Rattle.m3_machine.proofs.SeatedAll.{with_homes, all_seated}
+use Rattle.m3_machine.proofs.Opens.{homes_of, quantum_of, TilesOk, site_is, lines_are, places_quantum, along_lines, found_there, there_home, tiles_in, no_links, no_link, no_total, no_length, none_closed, no_holds, count_none, blank_current, blank_stays, there_of, is_there_of}
+
+open_leaving : (x : Seat) → OpenSeat x → is_leaving_seat x.seating ≡ false
+open_leaving x k = by_seating x.act x.seating k.1
+  where
+    by_seating : (a : ℕ) (w : Seating) → OpenSeating a w → is_leaving_seat w ≡ false
+    by_seating a Is_placed k = refl
+    by_seating a Is_leaving k = absurd k
+    by_seating a (Is_resting y) k = refl
+    by_seating a (Is_coming y) k = absurd k
+
+open_coming : (x : Seat) → OpenSeat x → is_coming_seat x.seating ≡ false
+open_coming x k = by_seating x.act x.seating k.1
+  where
+    by_seating : (a : ℕ) (w : Seating) → OpenSeating a w → is_coming_seat w ≡ false
+    by_seating a Is_placed k = refl
+    by_seating a Is_leaving k = absurd k
+    by_seating a (Is_resting y) k = refl
+    by_seating a (Is_coming y) k = absurd k
+
+and_false : (a b : Bool) → b ≡ false → (a && b) ≡ false
+and_false true b e = e
+and_false false b e = refl
+
+-- what each element says is said of the one that is found
+found_each : {X : Type 0} (key : X → ℕ) (P : X → Type 0) (a : ℕ) (xs : List X) (y : X) → Each P xs → keyed.find key same_act a xs ≡ Some y → P y × (key y ≡ a)
+found_each key P a [] y k e = absurd (cc)
+found_each key P a (x ∷ xs) y k e = by_test (a == key x) refl e (found_each key P a xs y k.1)
+  where
+    by_test : (b : Bool) → (a == key x) ≡ b → cond b (Some x) (keyed.find key same_act a xs) ≡ Some y → (keyed.find key same_act a xs ≡ Some y → P y × (key y ≡ a)) → P y × (key y ≡ a)
+    by_test true d e ih =
+        let q : x ≡ y = cc in
+        let n : key x ≡ a = grind (arith, nat_tests, d) in
+        (subst P q k.0, ap key (sym q) ∙ n)
+    by_test false d e ih = ih e
+
+not_none : {X : Type 0} (o : Option X) → (o ≡ None → ⊥) → IsThere o
+not_none None k = absurd (k refl)
+not_none (Some x) k = tt
+
+-- ---- a machine with all homes seated
+
+module _ (h : Site) (s : State) (m : Machine) (l : Along h s h.homes) (high : Each (λ x. (2 ≤ x.tile) × (x.tile < 16)) h.homes) (j : SeatedSoFar h s h.homes m) where
+  contexts_are : by_act (all_contexts m) ≡ s.contexts
+  contexts_are = j.contexts ∙ l.match'
+
+  no_packets : all_packets m ≡ []
+  no_packets = (λ k. no_holds m.kernel.seats j.opens k ++ on_links packets_in (j.links k)) ∙ no_links packets_in 256
+
+  no_closed : all_closed m ≡ []
+  no_closed = ap (on_links closed_in) j.links ∙ no_links closed_in 256
+
+  pub opened_at : at m ≡ s
+  opened_at =
+      (λ k. record {
+        memory = j.memory k;
+        contexts = contexts_are k;
+        flights = by_name (no_packets k);
+        kernel_next = j.next k;
+        grants = closed_from 1 (no_closed k) m.kernel.grants;
+      })
+      ∙ (λ k. record { memory = s.memory; contexts = s.contexts; flights = sym l.flights k; kernel_next = s.kernel_next; grants = (none_closed 1 m.kernel.grants ∙ j.grants) k })
+
+  no_parcels : (from to : ℕ) → link_at from to m ≡ []
+  no_parcels from to = ap (λ z. get_or z (16 * from + to) []) j.links ∙ no_link 256 (16 * from + to)
+
+  a_home : (a : ℕ) → is_home h a ≡ true → (y : Home) × (home_of a h ≡ Some y)
+  a_home a k = is_there_of (home_of a h) k
+
+  stay_is : (a : ℕ) → is_home h a ≡ true → stay_at h m.tiles a ≡ Some (new_stay a)
+  stay_is a k =
+      let y = a_home a k in
+      let f = found_each home_act (λ y. stay_of y.act (tile_at y.tile m) ≡ Some (new_stay y.act)) a h.homes y.0 j.stays y.1 in
+      let t : tile_of h a ≡ y.0.tile = ap tile_in y.1 in
+      ap (λ n. stay_of a (tile_at n m)) t ∙ subst (λ n. stay_of n (tile_at y.0.tile m) ≡ Some (new_stay n)) f.1 f.0
+
+  has_seat : (a : ℕ) (x : Seat) → seat_of a m.kernel ≡ Some x → is_home h a ≡ true
+  has_seat a x e = there_home (home_of a h) (not_none (home_of a h) (λ k. let n = j.unseated a k in absurd (cc)))
+
+  seat_fine : (a : ℕ) (x : Seat) → seat_of a m.kernel ≡ Some x → SeatOk h m.tiles x x.seating × Each (HeldOk h x.act) x.hold
+  seat_fine a x e =
+      let f = found_each seat_act OpenSeat a m.kernel.seats x j.opens e in
+      let its : is_home h x.act ≡ true = ap (is_home h) f.1 ∙ has_seat a x e in
+      (by_seating x.seating f.0.0 f.0.1 (stay_is x.act its), subst (Each (HeldOk h x.act)) (sym f.0.0) tt)
+    where
+      by_seating : (w : Seating) → x.hold ≡ [] → OpenSeating x.act w → stay_at h m.tiles x.act ≡ Some (new_stay x.act) → SeatOk h m.tiles x w
+      by_seating Is_placed k o t = k
+      by_seating Is_leaving k o t = absurd o
+      by_seating (Is_resting y) k o t = (o.0, subst (EndedAs y.ended) (sym t) (sym o.1))
+      by_seating (Is_coming y) k o t = absurd o
+
+  leaving_none : (a : ℕ) (o : Option Seat) → seat_of a m.kernel ≡ o → is_leaving_of o ≡ false
+  leaving_none a None e = refl
+  leaving_none a (Some x) e = open_leaving x (found_each seat_act OpenSeat a m.kernel.seats x j.opens e).0
+
+  counts : (p : Seat → Bool) → ((x : Seat) → OpenSeat x → p x ≡ false) → how_many p m.kernel.seats ≡ 0
+  counts p k = count_none p m.kernel.seats (each_map OpenSeat (λ x. p x ≡ false) k m.kernel.seats j.opens)
+
+  walk_none : (t : ℕ) → Walks (current_act (tile_at t m)) (link_at 0 t m) (placed_on h t m.kernel)
+  walk_none t = subst (λ qs. Walks (current_act (tile_at t m)) qs (placed_on h t m.kernel)) (sym (no_parcels 0 t)) (ap At (j.placed t))
+
+  pub opened_sound : IsSound h m
+  opened_sound =
+      record {
+        setup = record {
+          homes = l.homes;
+          tiles = λ a y e. (found_each home_act (λ x. (2 ≤ x.tile) × (x.tile < 16)) a h.homes y high e).0;
+        };
+        tiles = j.tiles;
+        links = ap length j.links ∙ no_length {X = List Parcel} 256 [];
+        acts = j.acts;
+        known = λ a k.
+            let y = a_home a k in
+            let f = found_each home_act (Has s.contexts) a h.homes y.0 l.has y.1 in
+            let there : context_of a s.contexts ≡ Some f.0.context = subst (λ n. context_of n s.contexts ≡ Some f.0.context) f.1 f.0.found in
+            not_none (context_of a (all_contexts m)) (λ n. let z : context_of a s.contexts ≡ None = ap (context_of a) (sym contexts_are) ∙ apart-by_act a (all_contexts m) n in absurd (cc));
+        named = j.named;
+        names = subst NamesApart (sym no_packets) tt;
+        housed = record {
+          seats = j.seats;
+          tiles = j.number;
+          stays = λ a k. subst IsThere (sym (stay_is a k)) tt;
+          current = j.current;
+        };
+        parcels = λ from to hf ht. subst (Each (ParcelOk h m.kernel m.tiles from to)) (sym (no_parcels from to)) tt;
+        seated = record {
+          seats = seat_fine;
+          filled = λ t. let c = counts (is_coming_at h t) (λ x k. and_false (tile_of h x.act == t) (is_coming_seat x.seating) (open_coming x k)) in let f = j.filled t in omega arith;
+          leaving = λ t. let c = counts (is_leaving_at h t) (λ x k. and_false (tile_of h x.act == t) (is_leaving_seat x.seating) (open_leaving x k)) in omega arith;
+          departing = λ a. ap (leavings a) j.links ∙ no_total (λ qs. how_many (of_act a) qs) refl 256 ∙ sym (ap one (leaving_none a (seat_of a m.kernel) refl));
+          walks = λ t low high. walk_none t;
+          orderly = λ t high. subst Orderly (sym (no_parcels t 0)) tt;
+        };
+        closed = subst ClosedApart (sym no_closed) tt;
+        shut = λ g e. absurd (let z = ap (λ l. is_in l g) no_closed in cc);
+        holders = subst (Each (λ x. is_home h (holder x.line) ≡ true)) (sym j.grants) l.holders;
+      }
+
+-- ---- the first machine has nobody
+
+-- these are the numbers from k on
+abbrev Counts : ℕ → List ℕ → Type 0
+Counts k [] = Unit {0}
+Counts k (n ∷ ns) = (n ≡ k) × Counts (k + 1) ns
+
+counted : (k : ℕ) (ns : List ℕ) (u e : ℕ) → Counts k ns → u < length ns → (get_or (map empty_tile ns) u (empty_tile e)).tile ≡ k + u
+counted k [] u e c less = absurd (omega arith)
+counted k (n ∷ ns) zero e c less = let z = c.0 in omega arith
+counted k (n ∷ ns) (suc u) e c less = let r = counted (k + 1) ns u e c.1 (omega arith) in omega arith
+
+first_number : (t : ℕ) → t < 16 → (get_or empty_tiles t (empty_tile t)).tile ≡ t
+first_number t less =
+    let r = counted 0 (0 ∷ 1 ∷ 2 ∷ 3 ∷ 4 ∷ 5 ∷ 6 ∷ 7 ∷ 8 ∷ 9 ∷ 10 ∷ 11 ∷ 12 ∷ 13 ∷ 14 ∷ 15 ∷ []) t t
+    (refl, (refl, (refl, (refl, (refl, (refl, (refl, (refl, (refl, (refl, (refl, (refl, (refl, (refl, (refl, (refl, tt)))))))))))))))) less in
+    omega arith
+
+first_current : (t : ℕ) → (get_or empty_tiles t (empty_tile t)).current ≡ None
+first_current t = blank_current (0 ∷ 1 ∷ 2 ∷ 3 ∷ 4 ∷ 5 ∷ 6 ∷ 7 ∷ 8 ∷ 9 ∷ 10 ∷ 11 ∷ 12 ∷ 13 ∷ 14 ∷ 15 ∷ []) t t
+
+first_stays : (t : ℕ) → (get_or empty_tiles t (empty_tile t)).stays ≡ []
+first_stays t = blank_stays (0 ∷ 1 ∷ 2 ∷ 3 ∷ 4 ∷ 5 ∷ 6 ∷ 7 ∷ 8 ∷ 9 ∷ 10 ∷ 11 ∷ 12 ∷ 13 ∷ 14 ∷ 15 ∷ []) t t
+
+abbrev pub first_machine : State → Machine
+first_machine s =
+    record {
+      kernel = record { seats = []; next = s.kernel_next; grants = s.grants; ready = replicate 16 []; yielded = replicate 16 false };
+      memory = s.memory;
+      tiles = empty_tiles;
+      links = replicate 256 [];
+    }
+
+no_ready : (n t a : ℕ) → list_any (λ b. b == a) (get_or (replicate n []) t []) ≡ false
+no_ready zero t a = refl
+no_ready (suc n) zero a = refl
+no_ready (suc n) (suc t) a = no_ready n t a
+
+no_contexts : (s : State) → all_contexts (first_machine s) ≡ []
+no_contexts s = no_links contexts_in 256
+
+first_seated : (h : Site) (s : State) → SeatedSoFar h s [] (first_machine s)
+first_seated h s =
+    record {
+      tiles = refl;
+      readies = refl;
+      memory = refl;
+      links = refl;
+      next = refl;
+      grants = refl;
+      number = first_number;
+      seats = refl;
+      seated = tt;
+      unseated = λ a e. refl;
+      opens = tt;
+      contexts = ap by_act (no_contexts s);
+      acts = subst ActsApart (sym (no_contexts s)) tt;
+      named = subst (Each (λ c. is_named_context h c ≡ true)) (sym (no_contexts s)) tt;
+      stays = tt;
+      unstayed = λ a t e. ap (keyed.find stay_act same_act a) (first_stays t);
+      unready = λ a t e. no_ready 16 t a;
+      taken = λ t. ap is_there (first_current t);
+      current = λ t c e. absurd (let z = first_current t in cc);
+      placed = λ t. ap act_in (first_current t);
+      filled = λ t. refl;
+    }
+
+-- ---- the opening
+
+module _ (memory : ℕ) (programs : List ℕ) (lines : List SetupLine) (obey : AllObey (opening memory []) lines) (tiles : TilesOk lines) where
+  abbrev h : Site
+  h = site_of memory programs lines
+
+  abbrev s : State
+  s = opening memory lines
+
+  site : site_of memory programs lines ≡ record { homes = homes_of programs lines; quantum = quantum_of 8 lines; memory = memory }
+  site = site_is programs (record { homes = []; quantum = 8; memory = memory }) lines
+
+  homes_are : (site_of memory programs lines).homes ≡ homes_of programs lines
+  homes_are = ap (λ z. z.homes) site
+
+  are_homes : Each (λ x. is_home h x.act ≡ true) (homes_of programs lines)
+  are_homes =
+      each_map (λ x. IsThere (home_in x.act (homes_of programs lines))) (λ x. is_home h x.act ≡ true)
+      (λ x k. there_home (home_of x.act h) (subst (λ l. IsThere (home_in x.act l)) (sym homes_are) k)) (homes_of programs lines) (found_there [] (homes_of programs lines))
+
+  nobody : Along h (opening memory []) []
+  nobody =
+      record {
+        has = tt;
+        declared = λ a k. absurd k;
+        homes = tt;
+        match' = refl;
+        acts = tt;
+        known = λ a k. absurd k;
+        named = λ a c e. absurd (cc);
+        holders = tt;
+        flights = refl;
+      }
+
+  along : Along h s h.homes
+  along = subst (Along h s) (sym homes_are) (along_lines programs h lines (opening memory []) [] nobody obey are_homes)
+
+  high : Each (λ x. (2 ≤ x.tile) × (x.tile < 16)) h.homes
+  high = subst (Each (λ x. (2 ≤ x.tile) × (x.tile < 16))) (sym homes_are) (tiles_in programs lines tiles)
+
+  all : SeatedSoFar h s h.homes (opened_machine memory programs lines) × (places_of h (opened_machine memory programs lines) ≡ place_homes (places_of (with_homes h []) (first_machine s)) h.homes)
+  all = all_seated h s along high h.homes [] (first_machine s) refl (first_seated h s)
+
+  -- its ideal state is the ideal opening
+  pub opens_at : at (opened_machine memory programs lines) ≡ opening memory lines
+  opens_at = opened_at h s (opened_machine memory programs lines) along high all.0
+
+  -- its places are the opening places
+  pub opens_places : places_of (site_of memory programs lines) (opened_machine memory programs lines) ≡ places.opening_places programs lines
+  opens_places =
+      let start : Places = record {
+        current = replicate 16 None;
+        actors = [];
+        links = replicate 256 [];
+        ready = replicate 16 [];
+        yielded = replicate 16 false;
+        quantum = 8;
+      } in
+      all.1
+      ∙ (λ k. place_homes (record start { quantum = quantum_is k }) (homes_are k))
+      ∙ places_quantum (homes_of programs lines) start (quantum_of 8 lines)
+      ∙ sym (lines_are programs lines start)
+    where
+      quantum_is : (site_of memory programs lines).quantum ≡ quantum_of 8 lines
+      quantum_is = ap (λ z. z.quantum) site
+
+  -- and it is sound
+  pub opens_sound : IsSound (site_of memory programs lines) (opened_machine memory programs lines)
+  opens_sound = opened_sound h s (opened_machine memory programs lines) along high all.0
