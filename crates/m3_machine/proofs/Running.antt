@@ -18,7 +18,7 @@ use Rattle.m3_machine.proofs.Moved.{length-set}
 use Rattle.m3_machine.proofs.Sets.{get_or-set}
 use Rattle.m3_machine.proofs.Changed.{Alike, alike-itself, actor-alike, ended-alike, there-alike, map-same, Swaps, swaps_state, swaps_apart, swaps_known, swaps_each}
 
-parcel-alike : (h : Site) (k : Kernel) (ts us : List Tile) → ((a : ℕ) → Alike (stay_at h ts a) (stay_at h us a)) → (from to : ℕ) (q : Parcel) → ParcelOk h k ts from to q → ParcelOk h k us from to q
+pub parcel-alike : (h : Site) (k : Kernel) (ts us : List Tile) → ((a : ℕ) → Alike (stay_at h ts a) (stay_at h us a)) → (from to : ℕ) (q : Parcel) → ParcelOk h k ts from to q → ParcelOk h k us from to q
 parcel-alike h k ts us e from to (Data p) o = o
 parcel-alike h k ts us e from to (Save a) o = o
 parcel-alike h k ts us e from to (Saved c w d) o = (o.0, o.1, o.2, ended-alike d (stay_at h ts c.act) (stay_at h us c.act) (e c.act) o.3)
@@ -26,7 +26,7 @@ parcel-alike h k ts us e from to (Restore c xs) o = o
 parcel-alike h k ts us e from to (Yield a) o = o
 parcel-alike h k ts us e from to (Closed g) o = o
 
-seat-alike : (h : Site) (ts us : List Tile) → ((a : ℕ) → Alike (stay_at h ts a) (stay_at h us a)) → (x : Seat) (w : Seating) → SeatOk h ts x w → SeatOk h us x w
+pub seat-alike : (h : Site) (ts us : List Tile) → ((a : ℕ) → Alike (stay_at h ts a) (stay_at h us a)) → (x : Seat) (w : Seating) → SeatOk h ts x w → SeatOk h us x w
 seat-alike h ts us e x Is_placed o = o
 seat-alike h ts us e x Is_leaving o = o
 seat-alike h ts us e x (Is_resting y) o = (o.0, ended-alike y.ended (stay_at h ts x.act) (stay_at h us x.act) (e x.act) o.1)
