@@ -9,3 +9,4 @@ pub mod SetupGrow
 pub mod SetupRules
 pub mod Obeying
 pub mod Programmed
+pub mod Seeing

@@ -1,5 +1,5 @@
 -- The replies that an activity sees in a journal, and those that the ideal steps give it.
-use Rattle.std.specs.Prelude.{◌≡◌, ℕ, Bool, ◌==◌, List, [], ◌∷◌, ◌++◌, Option, Some, None, if◌then◌else◌}
+use Rattle.std.specs.Prelude.{◌≡◌, ℕ, Bool, true, false, not, ◌==◌, List, [], ◌∷◌, ◌++◌, Option, Some, None, if◌then◌else◌}
 use Rattle.m3_base.specs.declared.ids.FlightId.{FlightId}
 use Rattle.m3_base.specs.declared.message.Header.{Header}
 use Rattle.m3_base.specs.declared.message.Message.{Message}
@@ -41,17 +41,25 @@ abbrev pub front_at : ℕ → Option Context → Option Header
 front_at ep None = None
 front_at ep (Some c) = front_header (endpoint c ep)
 
--- of a fetched message the entry has the kind, the sender, the label and the bytes
-abbrev pub fetched_reply : Option Header → ℕ → ℕ → ℕ → ℕ → List ℕ → List Reply
-fetched_reply None flags token from label payload = []
-fetched_reply (Some h) flags token from label payload =
-    Reply.Fetched token (record { header = record h { flags = flags; sender = from; label = label }; payload = payload }) ∷ []
+-- of a fetched message the entry has the kind, the token, the sender, the label and the bytes
+abbrev pub with_header : Bool → ℕ → ℕ → ℕ → List ℕ → Header → List Reply
+with_header true token from label payload h =
+    Reply.Fetched token (record { header = record h { sender = from; label = label }; payload = payload }) ∷ []
+with_header false token from label payload h = []
+
+abbrev pub printed_message : Option Header → ℕ → ℕ → ℕ → List ℕ → List Reply
+printed_message None token from label payload = []
+printed_message (Some h) token from label payload = with_header (h.flags == 0) token from label payload h
+
+abbrev pub printed_reply : Option Header → ℕ → ℕ → ℕ → List ℕ → List Reply
+printed_reply None token from label payload = []
+printed_reply (Some h) token from label payload = with_header (not (h.flags == 0)) token from label payload h
 
 abbrev pub printed_fetch : State → ℕ → ℕ → Said → List Reply
 printed_fetch s a ep (Said.Message token from label payload) =
-    fetched_reply (front_at ep (context_of a s.contexts)) 0 token from label payload
+    printed_message (front_at ep (context_of a s.contexts)) token from label payload
 printed_fetch s a ep (Said.ReplyMessage token from label payload) =
-    fetched_reply (front_at ep (context_of a s.contexts)) 1 token from label payload
+    printed_reply (front_at ep (context_of a s.contexts)) token from label payload
 printed_fetch s a ep Said.Nothing = Reply.Nothing ∷ []
 printed_fetch s a ep (Said.Refused why) = Reply.Refused why ∷ []
 printed_fetch s a ep said = []

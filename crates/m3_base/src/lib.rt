@@ -16,3 +16,5 @@ pub mod setup_line;
 pub mod standard_ends;
 pub mod step;
 pub mod stream;
+#[cfg(test)]
+mod tests;
