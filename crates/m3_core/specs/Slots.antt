@@ -1,11 +1,11 @@
 -- One endpoint's part of each command and packet.
-use Rattle.std.specs.Prelude.{ℕ, ◌+◌, ◌<◌, Bool, true, false, ◌==◌, nat_lt, List, [], ◌∷◌, slice_get, Option, Some, None, is_none, Result, Ok, Err, option_map}
+use Rattle.std.specs.Prelude.{ℕ, ◌+◌, ◌<◌, Bool, ◌==◌, nat_lt, [], ◌∷◌, slice_get, Option, Some, None, is_none, Result, Ok, Err, option_map}
 use Rattle.m3_base.specs.declared.message.Header.{Header}
 use Rattle.m3_base.specs.declared.message.Message.{Message}
 use Rattle.m3_base.specs.declared.command.Refusal.{Refusal}
 use Rattle.m3_base.specs.Context.{SendRecord, ReceiveRecord, MemoryRecord, Endpoint, Sends, Receives, Reaches}
-use Rattle.m3_base.specs.Receive.{with_fetched, fetched_at, unmarked, freed, marking}
-use Rattle.m3_base.specs.Issue.{first_of, wants_no_reply, less_one, may_read, may_write, access_refusal}
+use Rattle.m3_base.specs.Receive.{fetched_at, unmarked, freed, marking}
+use Rattle.m3_base.specs.Issue.{first_of, wants_no_reply, less_one, access_refusal}
 use Rattle.m3_base.specs.Land.{joined}
 use Rattle.m3_endpoint.specs.Receive.{message_in, fetched_token, fetched_one, header_or_refusal, replied}
 use Rattle.m3_endpoint.specs.Memory.{permits}

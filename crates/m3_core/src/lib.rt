@@ -7,3 +7,5 @@ pub mod flying;
 pub mod issued;
 pub mod parcel;
 mod slot;
+#[cfg(test)]
+mod tests;

@@ -12,9 +12,9 @@ mod packets;
 
 use m3_base::ids::{ActId, EpId, GrantId};
 use m3_base::packet::Fresh;
+use m3_endpoint::endpoint::Record;
 use m3_endpoint::memory::MemEp;
 use m3_endpoint::receive::ReceiveEp;
-use m3_endpoint::endpoint::Record;
 use m3_endpoint::send::SendEp;
 use std::alloc::{AllocError, Global};
 use std::marker::Model;

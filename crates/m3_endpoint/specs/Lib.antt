@@ -3,6 +3,7 @@ pub mod SendView
 pub mod MemoryView
 pub mod Memory
 pub mod FetchedView
+pub mod Order
 pub mod Places
 pub mod ReceiveView
 pub mod Receive

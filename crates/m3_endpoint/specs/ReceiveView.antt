@@ -3,6 +3,7 @@ use Rattle.std.specs.Prelude.{◌≡◌, ◌+◌, ◌≤◌, false, [], length, 
 use Rattle.m3_base.specs.Context.{ReceiveRecord}
 use Rattle.m3_base.specs.Fits.{is_form}
 use Rattle.m3_endpoint.specs.declared.receive.ReceiveEp.TheInside.{Inside}
+use Rattle.m3_endpoint.specs.Order.{AreOrdered}
 use Rattle.m3_endpoint.specs.Forms.{receive_form}
 
 abbrev pub messages : Inside → ReceiveRecord
@@ -24,5 +25,6 @@ pub record IsKept (s : Inside) : Type 0 where
   pub ring : s.unread.capacity ≡ 32
   pub room : 32 ≤ vec_capacity s.fetched
   pub within : length s.unread.items + length s.fetched.items ≤ s.slots
+  pub ordered : AreOrdered 0 s.fetched.items s.next_token
   pub form : IsTrue (is_form (receive_form (messages s)))
   pub unused : s.used ≡ false → (s.unread.items ≡ []) × (s.fetched.items ≡ [])

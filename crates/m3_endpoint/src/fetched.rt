@@ -1,7 +1,9 @@
 //! Fetched messages.
 
-ghost use Rattle.std.specs.Prelude.{◌≡◌, ℕ, ◌==◌, false};
+ghost use Rattle.std.specs.Prelude.{◌≡◌, ℕ, ◌==◌, ◌≤◌, false, length, vec_capacity};
 ghost use Rattle.std.specs.List.{position};
+ghost use Rattle.m3_base.specs.Receive.{without_token, with_mark};
+ghost use Rattle.m3_endpoint.specs.Order.{AreOrdered};
 ghost use Rattle.m3_endpoint.specs.Places.{IsPlaceOf};
 
 use m3_base::message::Message;
@@ -72,6 +74,30 @@ pub fn place_of(fetched: &[FetchedMessage], token: u32) -> Option<usize>
     ensures { IsPlaceOf fetched.now token result }
 {
     position_of(fetched, token)
+}
+
+/// The message of this token, where there is one, is being replied to, or no more.
+#[tactic(auto, using(crate::proofs::Order::ordered_mark))]
+pub fn mark(fetched: &mut [FetchedMessage], token: u32, marked: bool)
+    ensures list { fetched.new ≡ with_mark marked token fetched.old }
+    ensures ordered { (next : ℕ) → AreOrdered 0 fetched.old next → AreOrdered 0 fetched.new next }
+{
+    if let Some(place) = place_of(fetched, token) {
+        fetched[place].set_marked(marked);
+    }
+}
+
+/// The message of this token, where there is one, is gone.
+#[tactic(auto, using(crate::proofs::Order::ordered_without))]
+pub fn remove(fetched: &mut Vec<FetchedMessage>, token: u32)
+    ensures list { fetched.new.items ≡ without_token token fetched.old.items }
+    ensures len { length fetched.new.items ≤ length fetched.old.items }
+    ensures room { vec_capacity fetched.new ≡ vec_capacity fetched.old }
+    ensures ordered { (next : ℕ) → AreOrdered 0 fetched.old.items next → AreOrdered 0 fetched.new.items next }
+{
+    if let Some(place) = place_of(fetched, token) {
+        fetched.remove(place);
+    }
 }
 
 fn position_of(fetched: &[FetchedMessage], token: u32) -> Option<usize>

@@ -5,5 +5,6 @@ pub mod endpoint;
 mod fetched;
 pub mod memory;
 pub mod receive;
-
 pub mod send;
+#[cfg(test)]
+mod tests;

@@ -7,7 +7,9 @@ ghost use Rattle.m3_base.specs.Credit.{is_sent_by};
 ghost use Rattle.m3_endpoint.specs.Forms.{receive_form};
 ghost use Rattle.m3_endpoint.specs.Receive.{empty_record, closing_one, is_full_one, HasToken, token_of_fetch, after_fetch, unread_at, token_in, message_at, unmarked_at, marked_at, header_or_refusal, reply_header, replied, grant_in, size_in, closing_in, next_token_in, unread_count, fetched_count, token_at, queued_in};
 
-use crate::fetched::{FetchedMessage, place_of};
+mod readers;
+
+use crate::fetched::{FetchedMessage, mark, remove};
 use circular_buffer::HeapCircularBuffer;
 use m3_base::command::Refusal;
 use m3_base::ids::GrantId;
@@ -114,6 +116,7 @@ impl ReceiveEp {
     }
 
     /// The oldest unread message is fetched, under the next token. None exactly where none is unread.
+    #[tactic(auto, using(crate::proofs::Order::ordered_push))]
     pub fn fetch(&mut self) -> Option<u32>
         requires { HasToken self.old }
         ensures token { result ≡ token_of_fetch self.old }
@@ -135,29 +138,6 @@ impl ReceiveEp {
         }
     }
 
-    /// The oldest unread message. None exactly where none is unread.
-    pub fn front(&self) -> Option<&Message>
-        ensures { option_copied result ≡ unread_at self.now 0 }
-    {
-        if !self.used {
-            return None;
-        }
-        self.unread.front()
-    }
-
-    /// The message of this token. None exactly where none of this token is fetched, marked or not.
-    pub fn fetched(&self, token: u32) -> Option<&Message>
-        ensures { option_copied result ≡ message_at token self.now }
-    {
-        if !self.used {
-            return None;
-        }
-        match place_of(&self.fetched, token) {
-            None => None,
-            Some(place) => Some(self.fetched[place].message()),
-        }
-    }
-
     /// Frees the slot of the message of this token. `NoSuchToken` exactly where none of this token is fetched, or it
     /// is being replied to; nothing has changed then.
     pub fn acknowledge(&mut self, token: u32) -> Result<Header, Refusal>
@@ -165,42 +145,9 @@ impl ReceiveEp {
         ensures freed { IsOk result → self.new ≡ option_map (λ r. freed r token) self.old }
         ensures refused { IsErr result → self.new ≡ self.old }
     {
-        if !self.used {
-            return Err(Refusal::NoSuchToken);
-        }
-        match place_of(&self.fetched, token) {
-            None => Err(Refusal::NoSuchToken),
-            Some(place) => {
-                if self.fetched[place].marked() {
-                    return Err(Refusal::NoSuchToken);
-                }
-                let header = self.fetched[place].message().header;
-                self.fetched.remove(place);
-                Ok(header)
-            }
-        }
-    }
-
-    /// The header of the message of this token, which may be replied to. The refusals are those of `begin_reply`.
-    pub fn reply_header(&self, token: u32) -> Result<Header, Refusal>
-        ensures { result ≡ reply_header (unmarked_at token self.now) }
-    {
-        if !self.used {
-            return Err(Refusal::NoSuchToken);
-        }
-        match place_of(&self.fetched, token) {
-            None => Err(Refusal::NoSuchToken),
-            Some(place) => {
-                if self.fetched[place].marked() {
-                    return Err(Refusal::NoSuchToken);
-                }
-                let header = self.fetched[place].message().header;
-                if wants_none(&header) {
-                    return Err(Refusal::NoReplyWanted);
-                }
-                Ok(header)
-            }
-        }
+        let header = self.unmarked_header(token)?;
+        remove(&mut self.fetched, token);
+        Ok(header)
     }
 
     /// A reply to the message of this token begins. `NoSuchToken` exactly where none of this token is fetched, or it
@@ -211,24 +158,9 @@ impl ReceiveEp {
         ensures marked { IsOk result → self.new ≡ option_map (λ r. marking true r token) self.old }
         ensures refused { IsErr result → self.new ≡ self.old }
     {
-        if !self.used {
-            return Err(Refusal::NoSuchToken);
-        }
-        match place_of(&self.fetched, token) {
-            None => Err(Refusal::NoSuchToken),
-            Some(place) => {
-                let fetched = &mut self.fetched[place];
-                if fetched.marked() {
-                    return Err(Refusal::NoSuchToken);
-                }
-                let header = fetched.message().header;
-                if wants_none(&header) {
-                    return Err(Refusal::NoReplyWanted);
-                }
-                fetched.set_marked(true);
-                Ok(header)
-            }
-        }
+        let header = self.reply_header(token)?;
+        mark(&mut self.fetched, token, true);
+        Ok(header)
     }
 
     /// The reply to the message of this token has landed, and the slot is free; or it was refused, and the message
@@ -236,143 +168,10 @@ impl ReceiveEp {
     pub fn end_reply(&mut self, token: u32, landed: bool)
         ensures { self.new ≡ option_map (replied landed token) self.old }
     {
-        if !self.used {
-            return;
-        }
-        if let Some(place) = place_of(&self.fetched, token) {
-            if landed {
-                self.fetched.remove(place);
-            } else {
-                self.fetched[place].set_marked(false);
-            }
+        if landed {
+            remove(&mut self.fetched, token);
+        } else {
+            mark(&mut self.fetched, token, false);
         }
     }
-
-    /// Whether it is used.
-    pub fn is_used(&self) -> bool
-        ensures { IsTrue result ↔ IsSome self.now }
-    {
-        self.used
-    }
-
-    /// The form that it was opened by.
-    pub fn fresh(&self) -> Fresh
-        requires { IsSome self.now }
-        ensures same { Some result ≡ option_map receive_form self.now }
-        ensures form { IsTrue (is_form result) }
-    {
-        Fresh::Receive {
-            grant: self.grant,
-            slots: self.slots,
-            size: self.size,
-        }
-    }
-
-    /// Its grant.
-    pub fn grant(&self) -> GrantId
-        requires { IsSome self.now }
-        ensures { Some result ≡ option_map grant_in self.now }
-    {
-        self.grant
-    }
-
-    /// The largest payload, in bytes.
-    pub fn size(&self) -> u16
-        requires { IsSome self.now }
-        ensures { Some result ≡ option_map size_in self.now }
-    {
-        self.size
-    }
-
-    /// Whether it is closing.
-    pub fn closing(&self) -> bool
-        requires { IsSome self.now }
-        ensures { Some result ≡ option_map closing_in self.now }
-    {
-        self.closing
-    }
-
-    /// How many messages were fetched since it was opened: the token of the next one.
-    pub fn next_token(&self) -> u32
-        requires { IsSome self.now }
-        ensures { Some result ≡ option_map next_token_in self.now }
-    {
-        self.next_token
-    }
-
-    /// How many messages are unread.
-    pub fn unread_len(&self) -> usize
-        requires { IsSome self.now }
-        ensures { Some result ≡ option_map unread_count self.now }
-    {
-        self.unread.len()
-    }
-
-    /// How many messages are fetched, marked or not.
-    pub fn fetched_len(&self) -> usize
-        requires { IsSome self.now }
-        ensures { Some result ≡ option_map fetched_count self.now }
-    {
-        self.fetched.len()
-    }
-
-    /// The unread message with `i` older ones. None exactly where `i` isn't below `unread_len`.
-    pub fn unread(&self, i: usize) -> Option<&Message>
-        requires { IsSome self.now }
-        ensures { option_copied result ≡ unread_at self.now i }
-    {
-        self.unread.get(i)
-    }
-
-    /// The token of the fetched message that was fetched after `i` others that are still there. None exactly where `i`
-    /// isn't below `fetched_len`.
-    pub fn fetched_token(&self, i: usize) -> Option<u32>
-        requires { IsSome self.now }
-        ensures { result ≡ token_at self.now i }
-    {
-        self.fetched.get(i).map(|f| f.token())
-    }
-
-    /// How many messages that were sent through this grant, and aren't replies, are unread, or fetched and not being
-    /// replied to.
-    #[tactic(auto, using(crate::proofs::Counts::counted))]
-    pub fn queued(&self, grant: GrantId) -> u32
-        requires { IsSome self.now }
-        ensures count { Some result ≡ option_map (queued_in grant) self.now }
-        ensures range { result ≤ 32 }
-    {
-        let grant = grant.number() as u32;
-        let unread = self.unread.iter().filter(|m| is_sent_by(m, grant)).count();
-        let fetched = self
-            .fetched
-            .iter()
-            .filter(|f| is_sent_by(f.message(), grant) && !f.marked())
-            .count();
-        (unread + fetched) as u32
-    }
-
-    /// Whether a message of this token is being replied to.
-    pub fn marked(&self, token: u32) -> bool
-        requires { IsSome self.now }
-        ensures { result ≡ marked_at token self.now }
-    {
-        match place_of(&self.fetched, token) {
-            None => false,
-            Some(place) => self.fetched[place].marked(),
-        }
-    }
-}
-
-/// Whether a message with this header wants no reply: it is itself a reply, or names no reply endpoint.
-fn wants_none(header: &Header) -> bool
-    ensures { result ≡ (not (header.now.flags == 0) || (header.now.reply_ep == 255)) }
-{
-    header.flags != 0 || header.reply_ep == 255
-}
-
-/// Whether a message was sent through this grant and isn't a reply.
-fn is_sent_by(message: &Message, grant: u32) -> bool
-    ensures { result ≡ is_sent_by grant message.now }
-{
-    message.header.flags == 0 && message.header.send == grant
 }
