@@ -1,6 +1,7 @@
 //! The machine: parts that share nothing, the links between them, its events and its journal.
 #![tactic(auto)]
 
+mod aims;
 pub mod links;
 mod shown;
 pub mod site;
