@@ -11,6 +11,7 @@ pub mod Moving
 pub mod Rows
 pub mod Homes
 pub mod Links
+pub mod Whole
 pub mod Telling
 pub mod TileView
 pub mod Progress

@@ -3,6 +3,7 @@
 
 mod aims;
 pub mod links;
+pub mod machine;
 mod shown;
 pub mod site;
 pub mod tile;

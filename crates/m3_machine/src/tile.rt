@@ -5,8 +5,9 @@ ghost use Rattle.m3_core.specs.Conditions.{IsBufferFor};
 ghost use Rattle.m3_machine.specs.Parts.{tile_for};
 ghost use Rattle.m3_machine.specs.Tile.{tile_do, new_out};
 ghost use Rattle.m3_machine.specs.Telling.{said_issued, packet_issued, plain, out_of, Does};
-ghost use Rattle.m3_machine.specs.TileView.{CanIssue};
+ghost use Rattle.m3_machine.specs.TileView.{CanIssue, aim_at};
 
+use crate::aims::aim;
 use crate::shown::{Shown, fetched, front};
 use crate::site::Site;
 use m3_base::command::Command;
@@ -108,6 +109,16 @@ fn told(site: &Site, issued: Issued, front: Option<Shown>) -> TileDid
 }
 
 impl TilePart {
+    /// The tile that the packet of this command goes to, where one arises.
+    pub fn aim(&self, site: &Site, command: &Command) -> TileId
+        ensures { result ≡ aim_at site.now self.now.current command.now }
+    {
+        match &self.current {
+            None => TileId::new(0),
+            Some(context) => aim(site, context, command),
+        }
+    }
+
     /// The activity makes a command. It is idle where the activity isn't the current one, and then where the command
     /// has to wait for one that flies. Want of memory changes nothing.
     pub fn command(
