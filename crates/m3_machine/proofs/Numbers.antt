@@ -10,24 +10,28 @@ use Rattle.m3_base.specs.Context.{Kind, Sending, Replying, Reading, Writing, Sen
 use Rattle.m3_base.specs.Receive.{with_fetched, fetched_at, unmarked, freed, marking}
 use Rattle.m3_base.specs.Issue.{Issued, first_of, issue, unless, unless_busy, is_busy, launched, less_one, send, send_refusal, reply, reply_refusal, reply_to, fetch, fetch_from, acknowledge, acknowledge_at, acknowledged, may_read, may_write, access_refusal, read, write}
 use Rattle.m3_machine.specs.Naming.{next_token_at}
-use Rattle.m3_machine.specs.Whole.{HasLow}
+use Rattle.m3_machine.specs.Low.{HasLow}
 
 pub low_more : (n : ℕ) (c : Context) → HasLow n c → HasLow (n + 1) c
 low_more n c h = record { number = omega (arith, h.number); tokens = λ ep. omega (arith, h.tokens ep) }
 
--- an endpoint of n + 1 at most, among those of n
-at_set : (n ep k : ℕ) (es : List Endpoint) (e : Endpoint) → ((j : ℕ) → next_token_at (get_or es j Free) ≤ n) → next_token_at e ≤ n + 1 → next_token_at (get_or (set es ep e) k Free) ≤ n + 1
-at_set n ep k es e low token = ⊎_elim (λ (same : k ≡ ep). subst (λ (j : ℕ). next_token_at (get_or (set es ep e) j Free) ≤ n + 1) (sym same) here) other (cases_eq k ep)
+-- an endpoint of n at most, among others
+pub token_set : (n ep k : ℕ) (es : List Endpoint) (e : Endpoint) → ((j : ℕ) → next_token_at (get_or es j Free) ≤ n) → next_token_at e ≤ n → next_token_at (get_or (set es ep e) k Free) ≤ n
+token_set n ep k es e low token = ⊎_elim (λ (same : k ≡ ep). subst (λ (j : ℕ). next_token_at (get_or (set es ep e) j Free) ≤ n) (sym same) here) other (cases_eq k ep)
   where
-    here : next_token_at (get_or (set es ep e) ep Free) ≤ n + 1
+    here : next_token_at (get_or (set es ep e) ep Free) ≤ n
     here =
         ⊎_elim
-          (λ (within : ep < length es). subst (λ (x : Endpoint). next_token_at x ≤ n + 1) (sym (get_or-set_same es ep e Free within)) token)
-          (λ (past : length es ≤ ep). subst (λ (xs : List Endpoint). next_token_at (get_or xs ep Free) ≤ n + 1) (sym (set_past es ep e past)) (let t : next_token_at (get_or es ep Free) ≤ n = low ep in omega (arith, t)))
+          (λ (within : ep < length es). subst (λ (x : Endpoint). next_token_at x ≤ n) (sym (get_or-set_same es ep e Free within)) token)
+          (λ (past : length es ≤ ep). subst (λ (xs : List Endpoint). next_token_at (get_or xs ep Free) ≤ n) (sym (set_past es ep e past)) (low ep))
           (cases_lt ep (length es))
 
-    other : (k ≡ ep → ⊥) → next_token_at (get_or (set es ep e) k Free) ≤ n + 1
-    other ne = subst (λ (x : Endpoint). next_token_at x ≤ n + 1) (sym (get_or-set_other es ep k e Free ne)) (let t : next_token_at (get_or es k Free) ≤ n = low k in omega (arith, t))
+    other : (k ≡ ep → ⊥) → next_token_at (get_or (set es ep e) k Free) ≤ n
+    other ne = subst (λ (x : Endpoint). next_token_at x ≤ n) (sym (get_or-set_other es ep k e Free ne)) (low k)
+
+-- an endpoint of n + 1 at most, among those of n
+at_set : (n ep k : ℕ) (es : List Endpoint) (e : Endpoint) → ((j : ℕ) → next_token_at (get_or es j Free) ≤ n) → next_token_at e ≤ n + 1 → next_token_at (get_or (set es ep e) k Free) ≤ n + 1
+at_set n ep k es e low token = token_set (n + 1) ep k es e (λ j. let t : next_token_at (get_or es j Free) ≤ n = low j in omega (arith, t)) token
 
 -- an endpoint is written, and the next number rises by one at most
 low_write : (n ep : ℕ) (c d : Context) (e : Endpoint) → HasLow n c → d.next ≤ c.next + 1 → d.endpoints ≡ set c.endpoints ep e → next_token_at e ≤ n + 1 → HasLow (n + 1) d

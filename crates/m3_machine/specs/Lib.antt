@@ -11,7 +11,9 @@ pub mod Moving
 pub mod Rows
 pub mod Homes
 pub mod Links
+pub mod Low
 pub mod Whole
+pub mod Parcels
 pub mod Telling
 pub mod TileView
 pub mod Progress

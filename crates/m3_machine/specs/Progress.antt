@@ -1,5 +1,5 @@
 -- How far the contexts of an opening have come.
-use Rattle.std.specs.Prelude.{◌≡◌, ℕ, Bool, true, false, List, length, Option, Some, None, is_some, slice_index_or}
+use Rattle.std.specs.Prelude.{◌≡◌, ℕ, Bool, true, false, List, ◌∷◌, length, Option, Some, None, is_some, slice_index_or}
 use Rattle.std.specs.List.{list_any}
 use Rattle.m3_base.specs.declared.packet.Fresh.{Fresh}
 use Rattle.m3_base.specs.declared.setup_line.SetupLine.{SetupLine}
@@ -10,6 +10,7 @@ use Rattle.m3_base.specs.Grants.{holds_at}
 use Rattle.m3_base.specs.Opening.{with_lines, opening}
 use Rattle.m3_base.specs.Setup.{Facts, SetupValue, AllKept, all_noted, facts_of, home_in}
 use Rattle.m3_machine.specs.Table.{HasContexts}
+use Rattle.m3_machine.specs.Low.{HasLow}
 
 -- an endpoint is free where no grant is held there
 abbrev pub AreFree : State → Type 0
@@ -32,6 +33,7 @@ pub record Progress (setup : SetupValue) (table : List (Option Context)) (n : �
   pub count : n ≡ length facts.grants
   pub free : AreFree state
   pub forms : AreForms facts.grants
+  pub low : (a : ℕ) (c : Context) → context_of a state.contexts ≡ Some c → HasLow 0 c
   pub memory : facts.memory ≡ setup.memory
 
 -- an activity is there, with a free endpoint for a record in its ranges
@@ -40,3 +42,8 @@ pub record CanInstall (table : List (Option Context)) (a ep : ℕ) (fresh : Fres
   pub there : slice_index_or table a None ≡ Some context
   pub free : endpoint context ep ≡ Free
   pub form : is_form fresh ≡ true
+
+-- the next line to be read
+pub record AtLine (setup : SetupValue) (table : List (Option Context)) (n : ℕ) (line : SetupLine) : Type 0 where
+  pub left : List SetupLine
+  pub progress : Progress setup table n (line ∷ left)

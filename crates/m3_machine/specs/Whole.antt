@@ -1,6 +1,5 @@
 -- A machine with its setup and its journal, and what one step of it is.
 use Rattle.std.specs.Prelude.{◌≡◌, ℕ, ◌+◌, ◌*◌, ◌<◌, ◌≤◌, List, [], ◌∷◌, ◌++◌, length, map, slice_index_or, slice_set, Option, Some, None}
-use Rattle.m3_base.specs.declared.packet.Packet.{Packet}
 use Rattle.m3_base.specs.declared.event.Event.{Event}
 use Rattle.m3_base.specs.declared.event.Outcome.{Outcome}
 use Rattle.m3_base.specs.declared.event.Entry.{Entry}
@@ -8,11 +7,14 @@ use Rattle.m3_base.specs.declared.command.Command.{Command}
 use Rattle.m3_base.specs.Context.{Context, endpoint}
 use Rattle.m3_base.specs.Setup.{SetupValue}
 use Rattle.m3_machine.specs.declared.machine.Machine.TheInside.{Inside}
-use Rattle.m3_machine.specs.Parts.{Site, Parcel, Data, Tile}
+use Rattle.m3_machine.specs.Parts.{Site, Parcel, Tile}
 use Rattle.m3_machine.specs.Naming.{is_home, next_token_at}
 use Rattle.std.specs.declared.collections.VecDeque.{VecDeque}
 use Rattle.std.specs.declared.alloc.Global.{Global}
-use Rattle.m3_machine.specs.declared.tile.Emit.{Emit}
+use Rattle.m3_core.specs.declared.parcel.Emit.{Emit}
+use Rattle.m3_core.specs.declared.parcel.Parcel.{Parcel as CodeParcel}
+use Rattle.m3_machine.specs.Parcels.{parcels_of}
+use Rattle.m3_machine.specs.Low.{AreLow}
 use Rattle.m3_machine.specs.Links.{place, lists_in, HasRoom}
 use Rattle.m3_machine.specs.Machine.{Machine, mstep, opened_machine, site_of}
 
@@ -31,11 +33,8 @@ site s = site_of s.memory [] s.lines
 abbrev pub opened_whole : SetupValue → Whole
 opened_whole s = record { setup = s; machine = opened s; entries = [] }
 
-abbrev pub parcels_of : List (List Packet) → List (List Parcel)
-parcels_of links = map (λ ps. map Data ps) links
-
 -- the kernel and the memory are as at opening
-abbrev pub machine_of : SetupValue → List Tile → List (List Packet) → Machine
+abbrev pub machine_of : SetupValue → List Tile → List (List CodeParcel) → Machine
 machine_of s tiles links = record (opened s) { tiles = tiles; links = parcels_of links }
 
 abbrev pub whole_of : Inside → Whole
@@ -45,18 +44,6 @@ whole_of m =
       machine = machine_of m.journal.setup m.tiles.items (lists_in m.links.links.items);
       entries = m.journal.entries.items;
     }
-
--- next numbers and next tokens, where the journal has n entries
-pub record HasLow (n : ℕ) (c : Context) : Type 0 where
-  pub number : c.next ≤ n + 1
-  pub tokens : (ep : ℕ) → next_token_at (endpoint c ep) ≤ n
-
-abbrev pub LowIn : ℕ → Option Context → Type 0
-LowIn n None = Unit {0}
-LowIn n (Some c) = HasLow n c
-
-abbrev pub AreLow : ℕ → List Tile → Type 0
-AreLow n tiles = (t : ℕ) (d : Tile) → t < length tiles → LowIn n (slice_index_or tiles t d).current
 
 pub record IsWhole (m : Inside) : Type 0 where
   pub site : m.site ≡ site m.journal.setup
@@ -83,6 +70,6 @@ abbrev pub out_links : ℕ → List (ℕ × Parcel) → List (List Parcel) → L
 out_links from [] links = links
 out_links from (x ∷ xs) links = out_links from xs (slice_set links (16 * from + x.0) (slice_index_or links (16 * from + x.0) [] ++ x.1 ∷ []))
 
-abbrev pub HasRoomFor : List (VecDeque Packet Global) → ℕ → Option Emit → Type 0
+abbrev pub HasRoomFor : List (VecDeque CodeParcel Global) → ℕ → Option Emit → Type 0
 HasRoomFor links from None = Unit {0}
 HasRoomFor links from (Some e) = HasRoom links (place from e.to)

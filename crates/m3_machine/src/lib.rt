@@ -4,6 +4,8 @@
 mod aims;
 pub mod links;
 pub mod machine;
+mod opening;
+
 mod shown;
 pub mod site;
 pub mod tile;

@@ -1,17 +1,18 @@
-//! The links: for each ordered pair of tiles the packets on their way, first in, first out.
+//! The links: for each ordered pair of tiles the parcels on their way, first in, first out.
 
-ghost use Rattle.std.specs.Prelude.{◌≡◌, ℕ, ◌+◌, ◌*◌, ◌<◌, length, replicate, [], OnOk, IfOk, option_copied};
+ghost use Rattle.std.specs.Prelude.{◌≡◌, ℕ, ◌+◌, ◌*◌, ◌<◌, length, replicate, [], OnOk, IfOk};
 ghost use Rattle.m3_machine.specs.Links.{lists_in, pushed, popped, place, first, list_at, HasRoom};
+ghost use Rattle.m3_machine.specs.Parcels.{front_name};
 
-use m3_base::ids::TileId;
-use m3_base::packet::Packet;
+use m3_base::ids::{FlightId, TileId};
+use m3_core::parcel::Parcel;
 use std::alloc::{AllocError, Global};
 use std::collections::VecDeque;
 
 /// A link for each ordered pair of tiles, a tile with itself included.
 #[derive(Drop)]
 pub struct Links {
-    links: Vec<VecDeque<Packet>>,
+    links: Vec<VecDeque<Parcel>>,
     ghost full: { length links.items ≡ 256 },
 }
 
@@ -23,7 +24,7 @@ fn place(from: TileId, to: TileId) -> usize
     usize::from(from.number()) * 16 + usize::from(to.number())
 }
 
-fn no_packets(alloc: Global) -> Result<Vec<VecDeque<Packet>>, AllocError>
+fn no_parcels(alloc: Global) -> Result<Vec<VecDeque<Parcel>>, AllocError>
     ensures links { IfOk result (λ v. lists_in v.items ≡ replicate 256 []) }
     ensures full { IfOk result (λ v. length v.items ≡ 256) }
 {
@@ -35,34 +36,35 @@ fn no_packets(alloc: Global) -> Result<Vec<VecDeque<Packet>>, AllocError>
 }
 
 impl Links {
-    /// Links without packets.
+    /// Links without parcels.
     pub fn new(alloc: Global) -> Result<Links, AllocError>
         ensures { IfOk result (λ l. lists_in l.links.items ≡ replicate 256 []) }
     {
-        let links = no_packets(alloc)?;
+        let links = no_parcels(alloc)?;
         Ok(Links { links })
     }
 
-    /// Makes room for one more packet on this link.
+    /// Makes room for one more parcel on this link.
     pub fn reserve(&mut self, from: TileId, to: TileId) -> Result<(), AllocError>
         ensures same { lists_in self.new.links.items ≡ lists_in self.old.links.items }
         ensures room { OnOk result (HasRoom self.new.links.items (place from to)) }
+        ensures kept { (k : ℕ) → HasRoom self.old.links.items k → HasRoom self.new.links.items k }
     {
         let at = place(from, to);
         self.links[at].reserve(1)
     }
 
-    /// The packet joins the back of this link, which has room for it.
-    pub fn push(&mut self, from: TileId, to: TileId, packet: Packet)
+    /// The parcel joins the back of this link, which has room for it.
+    pub fn push(&mut self, from: TileId, to: TileId, parcel: Parcel)
         requires room { HasRoom self.old.links.items (place from to) }
-        ensures { lists_in self.new.links.items ≡ pushed (lists_in self.old.links.items) (place from to) packet }
+        ensures { lists_in self.new.links.items ≡ pushed (lists_in self.old.links.items) (place from to) parcel }
     {
         let at = place(from, to);
-        self.links[at].push_back_reserved(packet);
+        self.links[at].push_back_reserved(parcel);
     }
 
     /// The front of this link leaves it.
-    pub fn take(&mut self, from: TileId, to: TileId) -> Option<Packet>
+    pub fn take(&mut self, from: TileId, to: TileId) -> Option<Parcel>
         ensures answer { result ≡ first (list_at (lists_in self.old.links.items) (place from to)) }
         ensures links { lists_in self.new.links.items ≡ popped (lists_in self.old.links.items) (place from to) }
         ensures room { (k : ℕ) → HasRoom self.old.links.items k → HasRoom self.new.links.items k }
@@ -71,11 +73,14 @@ impl Links {
         self.links[at].pop_front()
     }
 
-    /// The front of this link.
-    pub fn front(&self, from: TileId, to: TileId) -> Option<&Packet>
-        ensures { option_copied result ≡ first (list_at (lists_in self.now.links.items) (place from to)) }
+    /// The name of the flight at the front of this link, where there is one.
+    pub fn front_id(&self, from: TileId, to: TileId) -> Option<FlightId>
+        ensures { result ≡ front_name (list_at (lists_in self.now.links.items) (place from to)) }
     {
         let at = place(from, to);
-        self.links[at].front()
+        match self.links[at].front() {
+            Some(Parcel::Data(packet)) => Some(packet.id()),
+            _ => None,
+        }
     }
 }

@@ -4,16 +4,17 @@ ghost use Rattle.std.specs.Prelude.{◌≡◌, ℕ, ◌<◌, ◌≤◌, ◌++◌
 ghost use Rattle.m3_base.specs.declared.event.Event.{Event};
 ghost use Rattle.m3_machine.specs.Links.{place, lists_in, HasRoom};
 ghost use Rattle.m3_machine.specs.Naming.{is_home};
-ghost use Rattle.m3_machine.specs.Telling.{out_of};
-ghost use Rattle.m3_machine.specs.Whole.{site, entry, parcels_of, out_links, HasRoomFor, Steps};
+ghost use Rattle.m3_machine.specs.Parcels.{parcels_of, out_of};
+ghost use Rattle.m3_machine.specs.Whole.{site, entry, out_links, HasRoomFor, Steps};
 
 use crate::links::Links;
 use crate::site::Site;
-use crate::tile::{Emit, TileDid, TilePart};
+use crate::tile::{TileDid, TilePart};
 use m3_base::command::Command;
 use m3_base::event::{Entry, Event, Outcome};
 use m3_base::ids::{ActId, TileId};
 use m3_base::journal::Journal;
+use m3_core::parcel::Emit;
 use std::alloc::{AllocError, Global};
 use std::marker::Model;
 
@@ -43,8 +44,8 @@ fn put_out(links: &mut Links, from: TileId, emit: Option<Emit>)
     requires { HasRoomFor links.old.links.items from emit }
     ensures { parcels_of (lists_in links.new.links.items) ≡ out_links from (out_of emit) (parcels_of (lists_in links.old.links.items)) }
 {
-    if let Some(Emit { to, packet }) = emit {
-        links.push(from, to, packet);
+    if let Some(Emit { to, parcel }) = emit {
+        links.push(from, to, parcel);
     }
 }
 

@@ -1,10 +1,12 @@
 //! A tile's part: its current activity, whose commands it issues and whose packets it takes.
 
-ghost use Rattle.std.specs.Prelude.{◌≡◌, ◌<◌, ◌≤◌, IfOk, OnErr, replicate, [], None, Some};
+ghost use Rattle.std.specs.Prelude.{◌≡◌, ◌∷◌, [], IfOk, OnErr, IsSome, None, Some};
 ghost use Rattle.m3_core.specs.Conditions.{IsBufferFor};
-ghost use Rattle.m3_machine.specs.Parts.{tile_for};
-ghost use Rattle.m3_machine.specs.Tile.{tile_do, new_out};
-ghost use Rattle.m3_machine.specs.Telling.{said_issued, packet_issued, plain, out_of, Does};
+ghost use Rattle.m3_base.specs.Places.{target, is_here};
+ghost use Rattle.m3_machine.specs.Parts.{closed_out};
+ghost use Rattle.m3_machine.specs.Tile.{tile_do, new_out, act_in, arrive_named, take_data};
+ghost use Rattle.m3_machine.specs.Telling.{said_issued, packet_issued, plain, credit_of, said_credit, said_came, out_came, NamesCredit, Lands, Does};
+ghost use Rattle.m3_machine.specs.Parcels.{parcel_of, out_of};
 ghost use Rattle.m3_machine.specs.TileView.{CanIssue, aim_at};
 
 use crate::aims::aim;
@@ -12,23 +14,18 @@ use crate::shown::{Shown, fetched, front};
 use crate::site::Site;
 use m3_base::command::Command;
 use m3_base::event::{IdleWhy, Outcome, Said};
-use m3_base::ids::{ActId, TileId};
+use m3_base::ids::{ActId, FlightId, GrantId, TileId};
 use m3_base::packet::Packet;
 use m3_base::payload::Payload;
+use m3_core::arrived::Arrived;
 use m3_core::context::Context;
 use m3_core::issued::Issued;
+use m3_core::parcel::{Emit, Parcel};
 use std::alloc::{AllocError, Global};
 use std::marker::Model;
 
-/// A packet that a part sends, and the tile that it goes to.
-#[derive(Debug, Drop)]
-pub struct Emit {
-    pub to: TileId,
-    pub packet: Packet,
-}
-
 /// What one event of a part came to.
-#[derive(Debug, Drop)]
+#[derive(Drop)]
 pub struct TileDid {
     pub outcome: Outcome,
     pub emit: Option<Emit>,
@@ -88,7 +85,8 @@ fn sent(site: &Site, packet: Packet) -> Option<Emit>
     ensures { out_of result ≡ new_out site.now (Some packet) }
 {
     let to = site.tile_for(&packet);
-    Some(Emit { to, packet })
+    let parcel = Parcel::Data(packet);
+    Some(Emit { to, parcel })
 }
 
 /// What is told of a command, where `front` is what a fetch takes.
@@ -106,6 +104,105 @@ fn told(site: &Site, issued: Issued, front: Option<Shown>) -> TileDid
         Issued::Refused(why) => says(Said::Refused(why), None),
         Issued::Flies(id, packet) => says(Said::Flying(id), sent(site, packet)),
     }
+}
+
+/// The number of the activity that a packet is for; a read or a write is for none.
+fn target_of(packet: &Packet) -> Option<u8>
+    ensures { result ≡ target packet.now }
+{
+    match packet {
+        Packet::Message { to, .. } => Some(to.number()),
+        Packet::Credit { to, .. } => Some(to.number()),
+        Packet::Read { .. } => None,
+        Packet::Write { .. } => None,
+        Packet::Answer { id, .. } => Some(id.issuer),
+        Packet::Install { to, .. } => Some(to.number()),
+        Packet::Close { to, .. } => Some(to.number()),
+    }
+}
+
+/// The grant of a credit.
+fn credit_of(packet: &Packet) -> Option<GrantId>
+    ensures { result ≡ credit_of packet.now }
+{
+    match packet {
+        Packet::Credit { grant, .. } => Some(*grant),
+        _ => None,
+    }
+}
+
+/// The parcel, to the kernel.
+fn to_kernel(parcel: Parcel) -> Option<Emit>
+    ensures { out_of result ≡ (0, parcel_of parcel) ∷ [] }
+{
+    let to = TileId::new(0);
+    Some(Emit { to, parcel })
+}
+
+/// That a grant's endpoint became free, to the kernel.
+fn closed(grant: GrantId) -> Option<Emit>
+    ensures { out_of result ≡ closed_out (Some grant) }
+{
+    to_kernel(Parcel::Closed(grant))
+}
+
+fn closed_if(grant: &Option<GrantId>) -> Option<Emit>
+    ensures { out_of result ≡ closed_out grant.now }
+{
+    match grant {
+        None => None,
+        Some(grant) => closed(*grant),
+    }
+}
+
+/// What is said of a credit, and whether an endpoint took it.
+fn said_of_credit(id: FlightId, credit: Option<GrantId>, taken: bool) -> Said
+    requires { IsSome credit }
+    ensures { result ≡ said_credit id credit taken }
+{
+    match credit {
+        None => unreachable!(),
+        Some(grant) => {
+            if taken {
+                Said::Credited(id, grant)
+            } else {
+                Said::Discarded(id, grant)
+            }
+        }
+    }
+}
+
+/// What came of a packet of this name, and of this grant where it is a credit.
+fn came(site: &Site, id: FlightId, credit: Option<GrantId>, arrived: Arrived) -> TileDid
+    requires { NamesCredit credit arrived }
+    ensures outcome { result.outcome ≡ plain (said_came id credit arrived) }
+    ensures out { out_of result.emit ≡ out_came site.now arrived }
+{
+    match arrived {
+        Arrived::Landed(answer) => says(Said::Landed(id), sent(site, answer)),
+        Arrived::Refused(why, answer) => says(Said::LandRefused(id, why), sent(site, answer)),
+        Arrived::Answered(id, answer, closed) => {
+            let out = closed_if(&closed);
+            says(Said::Answered { id, answer, closed }, out)
+        }
+        Arrived::Credited(taken) => says(said_of_credit(id, credit, taken), None),
+        Arrived::Installed(grant) => says(Said::Installed(id, grant), None),
+        Arrived::Closing(grant) => says(Said::Closing(id, grant), None),
+        Arrived::Closed(grant) => says(Said::Closed(id, grant), closed(grant)),
+    }
+}
+
+/// A packet for this context arrives where it fits and names activities of the setup alone, and is dropped else.
+fn land(site: &Site, context: &mut Context, packet: Packet) -> TileDid
+    ensures { Lands site.now result context.old context.new (arrive_named site.now context.old packet) }
+{
+    if !site.names(&packet) || !context.fits(&packet) {
+        return is_idle(IdleWhy::EmptyLink);
+    }
+    let id = packet.id();
+    let credit = credit_of(&packet);
+    let arrived = context.arrive(packet);
+    came(site, id, credit, arrived)
 }
 
 impl TilePart {
@@ -145,6 +242,30 @@ impl TilePart {
                 let buffer = buffer(alloc, &command)?;
                 Ok(told(site, context.issue(command, buffer), front))
             }
+        }
+    }
+
+    /// Whether the packet is for the current activity.
+    fn is_for(&self, packet: &Packet) -> bool
+        ensures { result ≡ is_here (target packet.now) (act_in self.now.current) }
+    {
+        match (&self.current, target_of(packet)) {
+            (Some(context), Some(target)) => context.act().number() == target,
+            _ => false,
+        }
+    }
+
+    /// The tile takes data. Data for its current activity arrives there where it fits and names activities of the setup
+    /// alone, and is dropped else, as if the link were empty; any other data bounces to the kernel. It takes no memory.
+    pub fn take_data(&mut self, site: &Site, packet: Packet) -> TileDid
+        ensures { Does result self.new (take_data site.now self.old packet) }
+    {
+        if !self.is_for(&packet) {
+            return says(Said::Bounced(packet.id()), to_kernel(Parcel::Data(packet)));
+        }
+        match &mut self.current {
+            None => unreachable!(),
+            Some(context) => land(site, context, packet),
         }
     }
 }

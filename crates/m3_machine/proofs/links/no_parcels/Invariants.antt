@@ -1,6 +1,6 @@
 use Rattle.std.proofs.Common.{◌≡◌, ℕ, length, replicate, []}
 use Rattle.m3_machine.specs.Links.{lists_in}
-use Rattle.m3_machine.proofs.links.no_packets.Given as goal
+use Rattle.m3_machine.proofs.links.no_parcels.Given as goal
 
 abbrev pub invariant-loop : goal.invariant-loop
 invariant-loop l = record {

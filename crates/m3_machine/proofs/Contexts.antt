@@ -20,6 +20,9 @@ use Rattle.m3_base.specs.Setup.{Facts, SetupValue, IsValid, AllKept, InRange, no
 use Rattle.m3_base.proofs.SetupRules.{grant_allowed}
 use Rattle.m3_base.proofs.Obeying.{Ties, obeys, ties}
 use Rattle.m3_machine.specs.Table.{HasContexts}
+use Rattle.m3_machine.specs.Low.{HasLow}
+use Rattle.m3_machine.specs.Naming.{next_token_at}
+use Rattle.m3_machine.proofs.Numbers.{token_set}
 use Rattle.m3_machine.specs.Progress.{AreFree, AreForms, Progress, CanInstall}
 use Rattle.m3_machine.proofs.Table.{has_new, has_put, found_new, found_beside, found_put, found_kept}
 
@@ -152,13 +155,19 @@ one_longer gs x = length-append gs (x ∷ [])
 other_ep : (ep : ℕ) (line : GrantLine) (f : Fresh) → holds_at (holder line) ep (new_grant line f) ≡ false → ep ≢ holder_ep line
 other_ep ep line f h e = grind (arith, nat_tests, h, e)
 
--- ---- one line
-
 some_is : (c d : Context) → Some c ≡ Some d → c ≡ d
 some_is c d e = cc
 
 no_record : (ep : ℕ) → get_or (replicate 16 Free) ep Free ≡ Free
 no_record ep = ⊎_elim (λ low. get_or-replicate 16 ep Free Free low) (λ high. get_or_past (replicate 16 Free) ep Free (omega (arith, length-replicate 16 Free, high))) (cases_lt ep 16)
+
+few_grants : (memory : ℕ) (gs : List Grant) (line : GrantLine) → make_refusal memory gs line ≡ None → length gs < 4096
+few_grants memory gs line e = grind (arith, nat_tests, e)
+
+-- ---- one line
+
+new_low : (a : ℕ) → HasLow 0 (new_context a)
+new_low a = record { number = omega arith; tokens = λ ep. subst (λ (e : Endpoint). next_token_at e ≤ 0) (sym (no_record ep)) (omega arith) }
 
 module _ (setup : SetupValue) (table : List (Option Context)) (n : ℕ) where
   pub tied : (left : List SetupLine) (p : Progress setup table n left) → Ties p.facts p.state
@@ -180,6 +189,15 @@ module _ (setup : SetupValue) (table : List (Option Context)) (n : ℕ) where
         (λ (ne : b ≡ a → ⊥). p.free b ep c (sym (found_beside b (new_context a) p.state.contexts ne) ∙ there) none)
         (cases_eq b a)
 
+    act_low : (b : ℕ) (c : Context) → context_of b (with_line p.state (SetupLine.Act a t)).contexts ≡ Some c → HasLow 0 c
+    act_low b c there =
+        ⊎_elim
+          (λ (e : b ≡ a).
+            let is : new_context a ≡ c = some_is (new_context a) c (sym (found_new a (new_context a) p.state.contexts is_new.0 refl) ∙ ap (λ x. context_of x (new_context_in (new_context a) p.state.contexts)) (sym e) ∙ there) in
+            subst (λ (x : Context). HasLow 0 x) is (new_low a))
+          (λ (ne : b ≡ a → ⊥). p.low b c (sym (found_beside b (new_context a) p.state.contexts ne) ∙ there))
+          (cases_eq b a)
+
     pub act_step : Progress setup (set table a (Some (new_context a))) n left
     act_step = record {
       state = with_line p.state (SetupLine.Act a t);
@@ -194,6 +212,7 @@ module _ (setup : SetupValue) (table : List (Option Context)) (n : ℕ) where
       count = p.count;
       free = act_free;
       forms = p.forms;
+      low = act_low;
       memory = p.memory;
     }
 
@@ -309,6 +328,31 @@ module _ (setup : SetupValue) (table : List (Option Context)) (n : ℕ) where
         (λ (ne : b ≡ after.act → ⊥). p.free b ep c (sym (found_kept b after p.state.contexts ne) ∙ cs) (first_free _ _ split))
         (cases_eq b after.act)
 
+    opened_low : (f : Fresh) → next_token_at (opened f) ≤ 0
+    opened_low (Fresh.Send grant to to_ep to_grant label size limit) = omega arith
+    opened_low (Fresh.Receive grant slots size) = omega arith
+    opened_low (Fresh.Memory grant start extent perm) = omega arith
+
+    after_low : HasLow 0 after
+    after_low = record {
+      number = (p.low (holder line) before here.1).number;
+      tokens = λ ep. token_set 0 (holder_ep line) ep before.endpoints (opened fresh) (p.low (holder line) before here.1).tokens (opened_low fresh);
+    }
+
+    still_low : (b : ℕ) (c : Context) → context_of b (granted p.state line (Some fresh)).contexts ≡ Some c → HasLow 0 c
+    still_low b c there =
+        let cs : context_of b (put_context after p.state.contexts) ≡ Some c = sym (ap (λ o. context_of b (installed (holder_ep line) fresh p.state.contexts o)) here.1) ∙ there in
+        ⊎_elim
+          (λ (e : b ≡ after.act).
+            let is : after ≡ c = some_is after c (sym (found_put after.act after before p.state.contexts (ap (λ k. context_of k p.state.contexts) act ∙ here.1) refl) ∙ ap (λ k. context_of k (put_context after p.state.contexts)) (sym e) ∙ cs) in
+            subst (λ (x : Context). HasLow 0 x) is after_low)
+          (λ (ne : b ≡ after.act → ⊥). p.low b c (sym (found_kept b after p.state.contexts ne) ∙ cs))
+          (cases_eq b after.act)
+
+    -- there is a number left
+    pub few : n + 1 ≤ 4096
+    few = let e : n ≡ length p.facts.grants = p.count in let l : length p.facts.grants < 4096 = few_grants p.facts.memory p.facts.grants line allowed in omega (arith, e, l)
+
     pub grant_step : Progress setup (set table (holder line) (Some after)) (n + 1) left
     grant_step = record {
       state = with_line p.state (SetupLine.Grant line);
@@ -323,5 +367,23 @@ module _ (setup : SetupValue) (table : List (Option Context)) (n : ℕ) where
       count = ap (λ k. k + 1) p.count ∙ sym (ap length grants_after ∙ one_longer p.facts.grants (new_grant line fresh));
       free = subst (λ (s : State). AreFree s) (sym state_after) still_free;
       forms = subst (λ (gs : List Grant). AreForms gs) (sym grants_after) (forms_more p.facts.grants (new_grant line fresh) p.forms is_fresh);
+      low = subst (λ (s : State). (b : ℕ) (c : Context) → context_of b s.contexts ≡ Some c → HasLow 0 c) (sym state_after) still_low;
       memory = p.memory;
     }
+
+  -- a line that declares no activity and makes no grant
+  abbrev pub IsOther : SetupLine → Type 0
+  IsOther (SetupLine.Act a t) = ⊥
+  IsOther (SetupLine.Grant line) = ⊥
+  IsOther line = Unit {0}
+
+  pub other_step : (line : SetupLine) (left : List SetupLine) → IsOther line → Progress setup table n (line ∷ left) → Progress setup table n left
+  other_step (SetupLine.Act a t) left i p = absurd i
+  other_step (SetupLine.Grant line) left i p = absurd i
+  other_step (SetupLine.Quantum q) left i p = record { state = p.state; facts = noted (SetupLine.Quantum q) p.facts; grants = p.grants; room = p.room; homes = p.homes; kept = p.kept.1.1; opens = p.opens; ends = p.ends; has = p.has; count = p.count; free = p.free; forms = p.forms; low = p.low; memory = p.memory }
+  other_step (SetupLine.Files g) left i p = record { state = p.state; facts = noted (SetupLine.Files g) p.facts; grants = p.grants; room = p.room; homes = p.homes; kept = p.kept.1.1; opens = p.opens; ends = p.ends; has = p.has; count = p.count; free = p.free; forms = p.forms; low = p.low; memory = p.memory }
+  other_step (SetupLine.Item a c) left i p = record { state = p.state; facts = noted (SetupLine.Item a c) p.facts; grants = p.grants; room = p.room; homes = p.homes; kept = p.kept.1.1; opens = p.opens; ends = p.ends; has = p.has; count = p.count; free = p.free; forms = p.forms; low = p.low; memory = p.memory }
+  other_step (SetupLine.AwaitItem a e) left i p = record { state = p.state; facts = noted (SetupLine.AwaitItem a e) p.facts; grants = p.grants; room = p.room; homes = p.homes; kept = p.kept.1.1; opens = p.opens; ends = p.ends; has = p.has; count = p.count; free = p.free; forms = p.forms; low = p.low; memory = p.memory }
+  other_step (SetupLine.Writer a m d e c r b) left i p = record { state = p.state; facts = noted (SetupLine.Writer a m d e c r b) p.facts; grants = p.grants; room = p.room; homes = p.homes; kept = p.kept.1.1; opens = p.opens; ends = p.ends; has = p.has; count = p.count; free = p.free; forms = p.forms; low = p.low; memory = p.memory }
+  other_step (SetupLine.Reader a m d c r f) left i p = record { state = p.state; facts = noted (SetupLine.Reader a m d c r f) p.facts; grants = p.grants; room = p.room; homes = p.homes; kept = p.kept.1.1; opens = p.opens; ends = p.ends; has = p.has; count = p.count; free = p.free; forms = p.forms; low = p.low; memory = p.memory }
+  other_step (SetupLine.Boxed a k f) left i p = record { state = p.state; facts = noted (SetupLine.Boxed a k f) p.facts; grants = p.grants; room = p.room; homes = p.homes; kept = p.kept.1.1; opens = p.opens; ends = p.ends; has = p.has; count = p.count; free = p.free; forms = p.forms; low = p.low; memory = p.memory }

@@ -1,0 +1,33 @@
+-- The code's parcels.
+use Rattle.std.specs.Prelude.{ℕ, List, [], ◌∷◌, Option, Some, None, map}
+use Rattle.m3_base.specs.declared.ids.FlightId.{FlightId}
+use Rattle.m3_base.specs.Flight.{name_of}
+use Rattle.m3_core.specs.declared.parcel.Emit.{Emit}
+use Rattle.m3_core.specs.declared.parcel.Heard.{Heard as CodeHeard}
+use Rattle.m3_core.specs.declared.parcel.Parcel.{Parcel as CodeParcel}
+use Rattle.m3_machine.specs.Parts.{Heard, Parcel, Data, Save, Saved, Restore, Yield, Closed}
+
+abbrev pub heard_in : Option CodeHeard → List Heard
+heard_in None = []
+heard_in (Some x) = record { number = x.number; answer = x.answer } ∷ []
+
+abbrev pub parcel_of : CodeParcel → Parcel
+parcel_of (CodeParcel.Data p) = Data p
+parcel_of (CodeParcel.Save a) = Save a
+parcel_of (CodeParcel.Saved c waiting ended) = Saved c waiting ended
+parcel_of (CodeParcel.Restore c heard) = Restore c (heard_in heard)
+parcel_of (CodeParcel.Yield a) = Yield a
+parcel_of (CodeParcel.Closed g) = Closed g
+
+abbrev pub parcels_of : List (List CodeParcel) → List (List Parcel)
+parcels_of links = map (λ ps. map parcel_of ps) links
+
+abbrev pub out_of : Option Emit → List (ℕ × Parcel)
+out_of None = []
+out_of (Some e) = (e.to, parcel_of e.parcel) ∷ []
+
+-- the name of the flight at the front
+abbrev pub front_name : List CodeParcel → Option FlightId
+front_name [] = None
+front_name (CodeParcel.Data p ∷ ps) = Some (name_of p)
+front_name (p ∷ ps) = None

@@ -1,0 +1,48 @@
+//! The contexts that a setup opens with.
+
+ghost use Rattle.std.specs.Prelude.{◌≡◌, ℕ, ◌+◌, ◌≤◌, List, ◌∷◌, [], length, replicate, slice_set, slice_index_or, None, Some, IfOk, OnOk};
+ghost use Rattle.m3_base.specs.Context.{Context, new_context, with_endpoint, opened};
+ghost use Rattle.m3_base.specs.Opening.{opening};
+ghost use Rattle.m3_base.specs.declared.setup_line.SetupLine.{SetupLine};
+ghost use Rattle.m3_machine.specs.Table.{HasContexts};
+ghost use Rattle.m3_machine.specs.Progress.{Progress, CanInstall};
+
+use m3_base::ids::{ActId, EpId, GrantId};
+use m3_base::order::GrantLine;
+use m3_base::packet::Fresh;
+use m3_base::setup::Setup;
+use m3_base::setup_line::SetupLine;
+use m3_core::context::Context;
+use std::alloc::{AllocError, Global};
+
+fn no_contexts(alloc: Global) -> Result<Vec<Option<Context>>, AllocError>
+    ensures { IfOk result (λ v. v.items ≡ replicate 64 None) }
+{
+    let mut table = Vec::new(alloc);
+    for _ in 0..64u8 {
+        table.push(None)?;
+    }
+    Ok(table)
+}
+
+/// An activity gets its context.
+fn declare(alloc: Global, table: &mut Vec<Option<Context>>, act: ActId) -> Result<(), AllocError>
+    requires { length table.old.items ≡ 64 }
+    ensures { OnOk result (table.new.items ≡ slice_set table.old.items act (Some (new_context act))) }
+{
+    let context = Context::new(alloc, act)?;
+    table[usize::from(act.number())] = Some(context);
+    Ok(())
+}
+
+/// A grant's record stands at its holder's endpoint.
+fn install(table: &mut Vec<Option<Context>>, act: ActId, ep: EpId, fresh: Fresh)
+    requires count { length table.old.items ≡ 64 }
+    requires can { CanInstall table.old.items act ep fresh }
+    ensures { (c : Context) → slice_index_or table.old.items act None ≡ Some c → table.new.items ≡ slice_set table.old.items act (Some (with_endpoint c ep (opened fresh))) }
+{
+    match &mut table[usize::from(act.number())] {
+        None => unreachable!(),
+        Some(context) => context.install(ep, fresh),
+    }
+}
