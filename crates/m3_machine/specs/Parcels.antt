@@ -14,8 +14,8 @@ heard_in (Some x) = record { number = x.number; answer = x.answer } ∷ []
 abbrev pub parcel_of : CodeParcel → Parcel
 parcel_of (CodeParcel.Data p) = Data p
 parcel_of (CodeParcel.Save a) = Save a
-parcel_of (CodeParcel.Saved c waiting ended) = Saved c waiting ended
-parcel_of (CodeParcel.Restore c heard) = Restore c (heard_in heard)
+parcel_of (CodeParcel.Saved a c waiting ended) = Saved c waiting ended
+parcel_of (CodeParcel.Restore a c heard) = Restore c (heard_in heard)
 parcel_of (CodeParcel.Yield a) = Yield a
 parcel_of (CodeParcel.Closed g) = Closed g
 

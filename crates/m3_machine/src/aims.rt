@@ -10,7 +10,7 @@ use m3_base::command::Command;
 use m3_base::ids::{EpId, TileId};
 use m3_base::packet::Fresh;
 use m3_core::context::Context;
-use m3_endpoint::record_kind::Record;
+use m3_endpoint::endpoint::Record;
 
 /// The home of the activity that a send through this endpoint is for.
 fn aim_of_send(site: &Site, context: &Context, ep: EpId) -> TileId

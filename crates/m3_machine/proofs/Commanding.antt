@@ -1,0 +1,151 @@
+-- The machine's step at a command, from the tile's.
+use Rattle.std.proofs.Common.{◌≡◌, ℕ, zero, suc, ◌+◌, ◌*◌, ◌<◌, ◌≤◌, Bool, true, false, List, [], ◌∷◌, ◌++◌, length, map, get_or, set, Option, Some, None, refl, sym, ap, ◌∙◌, subst, arith, ⊎_elim}
+use Rattle.std.specs.Prelude.{if◌then◌else◌, ◌==◌}
+use Rattle.std.proofs.lemmas.List.{get_or-set_same, get_or-set_other, get_or_default, length-set, map-set, map-append}
+use Rattle.std.proofs.lemmas.Bool.{cases_eq}
+use Rattle.std.proofs.lemmas.Bool.Decides.{nat_tests}
+use Rattle.std.specs.declared.collections.VecDeque.{VecDeque}
+use Rattle.std.specs.declared.alloc.Global.{Global}
+use Rattle.m3_base.specs.declared.command.Command.{Command}
+use Rattle.m3_base.specs.declared.packet.Packet.{Packet}
+use Rattle.m3_base.specs.declared.event.Event.{Event}
+use Rattle.m3_base.specs.declared.event.IdleWhy.{IdleWhy}
+use Rattle.m3_base.specs.declared.event.Outcome.{Outcome}
+use Rattle.m3_machine.specs.declared.tile.TileDid.{TileDid}
+use Rattle.m3_machine.specs.Telling.{Does}
+use Rattle.m3_base.specs.Context.{Context}
+use Rattle.m3_base.specs.Issue.{Issued, issue}
+use Rattle.m3_base.specs.Places.{target}
+use Rattle.m3_core.specs.declared.parcel.Emit.{Emit}
+use Rattle.m3_core.specs.declared.parcel.Parcel.{Parcel as CodeParcel}
+use Rattle.m3_machine.specs.Parts.{Site, Parcel, Data, Tile, Deed, is_idle, tile_of, tile_for}
+use Rattle.m3_machine.specs.Tile.{tile_do, do_at, do_issued, new_out}
+use Rattle.m3_machine.specs.Links.{place, lists_in, list_at, pushed, HasRoom}
+use Rattle.m3_machine.specs.Parcels.{parcel_of, parcels_of, out_of}
+use Rattle.m3_machine.specs.Aims.{aim_of}
+use Rattle.m3_machine.specs.TileView.{aim_at}
+use Rattle.m3_machine.specs.Low.{HasLow, LowIn, AreLow}
+use Rattle.m3_machine.specs.Whole.{out_links, HasRoomFor}
+use Rattle.m3_machine.specs.Machine as plain
+use Rattle.m3_machine.proofs.Aiming.{issue_goes, GoesTo, AllGo}
+use Rattle.m3_machine.proofs.Numbers.{AllLow, issue_low, low_more}
+
+-- ---- links
+
+parcels_at : (links : List (List CodeParcel)) (k : ℕ) → get_or (parcels_of links) k [] ≡ map parcel_of (get_or links k [])
+parcels_at [] k = refl
+parcels_at (l ∷ ls) zero = refl
+parcels_at (l ∷ ls) (suc k) = parcels_at ls k
+
+pub parcels_pushed : (links : List (List CodeParcel)) (k : ℕ) (p : CodeParcel) → parcels_of (pushed links k p) ≡ set (parcels_of links) k (get_or (parcels_of links) k [] ++ parcel_of p ∷ [])
+parcels_pushed links k p =
+    map-set (map parcel_of) links k (get_or links k [] ++ p ∷ [])
+      ∙ ap (set (parcels_of links) k) (map-append parcel_of (get_or links k []) (p ∷ []) ∙ ap (λ ps. ps ++ parcel_of p ∷ []) (sym (parcels_at links k)))
+
+pub puts_out : (links new : List (List CodeParcel)) (from : ℕ) (emit : Option Emit) (e : Emit) → emit ≡ Some e → new ≡ pushed links (place from e.to) e.parcel → parcels_of new ≡ out_links from (out_of emit) (parcels_of links)
+puts_out links new from emit e is to =
+    ap parcels_of to ∙ parcels_pushed links (place from e.to) e.parcel ∙ ap (λ o. out_links from (out_of o) (parcels_of links)) (sym is)
+
+-- a machine after what goes out is the machine with the links after it
+pub pushed_links : (m : plain.Machine) (from : ℕ) (out : List (ℕ × Parcel)) → plain.pushed_all from out m ≡ record m { links = out_links from out m.links }
+pushed_links m from [] = refl
+pushed_links m from (x ∷ xs) = pushed_links (plain.pushed from x m) from xs
+
+-- ---- what a command sends has room
+
+first_to : List (ℕ × Parcel) → ℕ
+first_to [] = 0
+first_to (x ∷ xs) = x.0
+
+head_of : (e : Emit) (m : ℕ) (q : Parcel) → out_of (Some e) ≡ (m, q) ∷ [] → e.to ≡ m
+unfolding first_to
+head_of e m q is = ap first_to is
+
+no_head : (e : Emit) → out_of (Some e) ≡ [] → ⊥
+no_head e is = cc
+
+module _ (h : Site) (part : Tile) (a : ℕ) (command : Command) where
+  -- what goes out goes there
+  abbrev Goes : ℕ → List (ℕ × Parcel) → Type 0
+  Goes to out = (e : Emit) → out_of (Some e) ≡ out → e.to ≡ to
+
+  new_goes : (to : ℕ) (o : Option Packet) → GoesTo h to o → Goes to (new_out h o)
+  new_goes to None g e is = absurd (no_head e is)
+  new_goes to (Some p) g e is = head_of e (tile_for h (target p)) (Data p) is ∙ g
+
+  issued_goes : (x : Context) (o : Option Issued) → issue x command ≡ o → Goes (aim_of h x command) (do_issued h part o).out
+  issued_goes x None is e w = absurd (no_head e w)
+  issued_goes x (Some i) is e w = new_goes (aim_of h x command) i.packet (subst (λ (o : Option Issued). AllGo h (aim_of h x command) o) is (issue_goes h x command)) e w
+
+  at_goes : (o : Option Context) → Goes (aim_at h o command) (do_at h part a command o).out
+  at_goes None e w = absurd (no_head e w)
+  at_goes (Some x) e w = by_act (x.act == a) e w
+    where
+      by_act : (b : Bool) → Goes (aim_of h x command) (if b then do_issued h part (issue x command) else is_idle IdleWhy.NotCurrent part).out
+      by_act true e w = issued_goes x (issue x command) refl e w
+      by_act false e w = absurd (no_head e w)
+
+  pub has_room : (links : List (VecDeque CodeParcel Global)) (from to : ℕ) (emit : Option Emit) → to ≡ aim_at h part.current command → out_of emit ≡ (tile_do h part a command).out → HasRoom links (place from to) → HasRoomFor links from emit
+  has_room links from to None aims is room = tt
+  has_room links from to (Some e) aims is room = subst (λ (k : ℕ). HasRoom links (place from k)) (aims ∙ sym (at_goes part.current e is)) room
+
+  -- ---- numbers
+
+  issued_current : (n : ℕ) (x : Context) (o : Option Issued) → part.current ≡ Some x → HasLow n x → AllLow (n + 1) o → LowIn (n + 1) (do_issued h part o).part.current
+  issued_current n x None is low all = subst (λ (c : Option Context). LowIn (n + 1) c) (sym is) (low_more n x low)
+  issued_current n x (Some i) is low all = all
+
+  more_low : (n : ℕ) (o : Option Context) → LowIn n o → LowIn (n + 1) o
+  more_low n None l = tt
+  more_low n (Some x) l = low_more n x l
+
+  do_current : (n : ℕ) (o : Option Context) → part.current ≡ o → LowIn n o → LowIn (n + 1) (do_at h part a command o).part.current
+  do_current n None is l = subst (λ (c : Option Context). LowIn (n + 1) c) (sym is) tt
+  do_current n (Some x) is l = by_act (x.act == a)
+    where
+      by_act : (b : Bool) → LowIn (n + 1) (if b then do_issued h part (issue x command) else is_idle IdleWhy.NotCurrent part).part.current
+      by_act true = issued_current n x (issue x command) is l (issue_low n x command l)
+      by_act false = subst (λ (c : Option Context). LowIn (n + 1) c) (sym is) (low_more n x l)
+
+  pub do_low : (n : ℕ) → LowIn n part.current → LowIn (n + 1) (tile_do h part a command).part.current
+  do_low n l = do_current n part.current refl l
+
+-- a tile changes, and the journal has one entry more
+pub low_set : (n at : ℕ) (tiles : List Tile) (new : Tile) → AreLow n tiles → LowIn (n + 1) new.current → AreLow (n + 1) (set tiles at new)
+low_set n at tiles new low l t d within =
+    let short : t < length tiles = subst (λ (k : ℕ). t < k) (length-set tiles at new) within in
+    ⊎_elim
+      (λ (e : t ≡ at). subst (λ (x : Tile). LowIn (n + 1) x.current) (sym (ap (λ k. get_or (set tiles at new) k d) e ∙ get_or-set_same tiles at new d (subst (λ (k : ℕ). k < length tiles) e short))) l)
+      (λ (ne : t ≡ at → ⊥). subst (λ (x : Tile). LowIn (n + 1) x.current) (sym (get_or-set_other tiles at t new d ne)) (still (get_or tiles t d).current (low t d short)))
+      (cases_eq t at)
+  where
+    still : (o : Option Context) → LowIn n o → LowIn (n + 1) o
+    still None l = tt
+    still (Some x) l = low_more n x l
+
+-- ---- the step
+
+module _ (h : Site) (m : plain.Machine) (t a : ℕ) (command : Command) (at_home : tile_of h a ≡ t) (high : 2 ≤ t) (low : t < length m.tiles) where
+  not_low : (k : ℕ) → k < 2 → (t == k) ≡ false
+  not_low k small = grind (arith, nat_tests, high, small)
+
+  part_there : (k : ℕ) → k ≡ t → plain.part_at k m ≡ plain.Is_tile (plain.tile_at t m)
+  part_there k e =
+      ap (λ j. plain.part_at j m) e
+        ∙ ap (λ b. if b then plain.Is_kernel m.kernel else (if t == 1 then plain.Is_memory m.memory else plain.Is_tile (plain.tile_at t m))) (not_low 0 (omega arith))
+        ∙ ap (λ b. if b then plain.Is_memory m.memory else plain.Is_tile (plain.tile_at t m)) (not_low 1 (omega arith))
+
+  pub do_step : plain.mstep h m (Event.Do a command) None ≡ plain.done_by t m (Some (plain.of_tile (tile_do h (plain.tile_at t m) a command)))
+  do_step =
+      ap (λ k. plain.done_by k m (plain.part_step h (plain.part_at k m) (Event.Do a command) None None)) at_home
+        ∙ ap (λ x. plain.done_by t m (plain.part_step h x (Event.Do a command) None None)) (part_there t refl)
+
+  pub does_step : (tiles : List Tile) (part : Tile) (emit : Option Emit) (d : TileDid) (links : List (List Parcel)) → Does d part (tile_do h (plain.tile_at t m) a command) → emit ≡ d.emit → tiles ≡ set m.tiles t part → links ≡ out_links t (out_of emit) m.links
+    → plain.mstep h m (Event.Do a command) None ≡ Some (record { outcome = d.outcome; machine = record m { tiles = tiles; links = links } })
+  does_step tiles part emit d links does sent is out =
+      do_step
+        ∙ ap Some (λ i. record {
+          outcome = sym does.outcome i;
+          machine = (pushed_links (plain.with_part t (plain.Is_tile (tile_do h (plain.tile_at t m) a command).part) m) t (tile_do h (plain.tile_at t m) a command).out
+            ∙ (λ j. record m { tiles = (sym (is ∙ ap (set m.tiles t) does.part)) j; links = (ap (λ o. out_links t o m.links) (sym does.out ∙ ap out_of (sym sent)) ∙ sym out) j })) i;
+        })
