@@ -2,10 +2,10 @@
 #![tactic(auto)]
 
 mod aims;
+mod audit;
 pub mod links;
 pub mod machine;
 mod opening;
-
 mod shown;
 pub mod site;
 pub mod tile;

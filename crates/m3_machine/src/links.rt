@@ -83,4 +83,29 @@ impl Links {
             _ => None,
         }
     }
+
+    /// Whether this link has no parcel.
+    pub fn is_empty(&self, from: TileId, to: TileId) -> bool {
+        self.links[place(from, to)].is_empty()
+    }
+
+    /// All links.
+    pub fn all(&self) -> &[VecDeque<Parcel>]
+        ensures { result.now ≡ self.now.links.items }
+    {
+        self.links.as_slice()
+    }
+
+    /// How many data packets are on all links.
+    pub fn flights(&self) -> u32 {
+        let mut count = 0u32;
+        for link in self.links.iter() {
+            for parcel in link.iter() {
+                if let Parcel::Data(_) = parcel {
+                    count = count.saturating_add(1);
+                }
+            }
+        }
+        count
+    }
 }

@@ -2,19 +2,22 @@
 
 ghost use Rattle.std.specs.Prelude.{◌≡◌, ℕ, ◌<◌, ◌≤◌, ◌++◌, ◌∷◌, [], true, length, OnOk, OnErr, IfOk, vec_len, vec_capacity, Some};
 ghost use Rattle.m3_base.specs.declared.event.Event.{Event};
-ghost use Rattle.m3_machine.specs.Links.{place, lists_in, HasRoom};
+ghost use Rattle.m3_machine.specs.Links.{place, lists_in, pushed, HasRoom};
 ghost use Rattle.m3_machine.specs.Naming.{is_home};
 ghost use Rattle.m3_machine.specs.Parcels.{parcels_of, out_of};
 ghost use Rattle.m3_machine.specs.Whole.{site, entry, out_links, HasRoomFor, Steps};
 
+use crate::audit::{credit_lines, tile_lines};
 use crate::links::Links;
+use crate::opening::{contexts, seated};
 use crate::site::Site;
-use crate::tile::{TileDid, TilePart};
+use crate::tile::{is_idle, TileDid, TilePart};
 use m3_base::command::Command;
-use m3_base::event::{Entry, Event, Outcome};
+use m3_base::event::{Entry, Event, IdleWhy, Outcome};
 use m3_base::ids::{ActId, TileId};
-use m3_base::journal::Journal;
-use m3_core::parcel::Emit;
+use m3_base::journal::{Audit, AuditLine, Journal};
+use m3_base::setup::Setup;
+use m3_core::parcel::{Emit, Parcel};
 use std::alloc::{AllocError, Global};
 use std::marker::Model;
 
@@ -39,13 +42,34 @@ impl Model for Machine {
     ghost invariant = { IsWhole };
 }
 
+/// The most entries that a journal has.
+pub const MOST_ENTRIES: usize = 2_097_152;
+
+/// Why a step wasn't made.
+#[derive(Clone, Copy, Debug, PartialEq, Eq, Drop)]
+pub enum StepRefusal {
+    /// The journal has as many entries as it may have.
+    Spent,
+    /// No memory was left for the entry or for what it moves.
+    NoMemory,
+}
+
+/// A parcel joins its link, which has room for it.
+fn push(links: &mut Links, from: TileId, emit: Emit)
+    requires { HasRoom links.old.links.items (place from emit.to) }
+    ensures { lists_in links.new.links.items ≡ pushed (lists_in links.old.links.items) (place from emit.to) emit.parcel }
+{
+    links.push(from, emit.to, emit.parcel);
+}
+
 /// What a part sends joins its link, which has room for it.
 fn put_out(links: &mut Links, from: TileId, emit: Option<Emit>)
     requires { HasRoomFor links.old.links.items from emit }
     ensures { parcels_of (lists_in links.new.links.items) ≡ out_links from (out_of emit) (parcels_of (lists_in links.old.links.items)) }
 {
-    if let Some(Emit { to, parcel }) = emit {
-        links.push(from, to, parcel);
+    match emit {
+        None => {}
+        Some(emit) => push(links, from, emit),
     }
 }
 
@@ -61,6 +85,44 @@ fn add(entries: &mut Vec<Entry>, event: Event, outcome: Outcome)
 }
 
 impl Machine {
+    /// The machine that a setup describes, with no entry made. Each activity that is the first of its tile is there.
+    pub fn open(alloc: Global, setup: Setup) -> Result<Machine, AllocError> {
+        let site = Site::new(alloc, setup.memory(), setup.lines())?;
+        let mut table = contexts(alloc, &setup)?;
+        let tiles = seated(alloc, &site, &mut table)?;
+        let links = Links::new(alloc)?;
+        let journal = Journal {
+            setup,
+            entries: Vec::new(alloc),
+        };
+        Ok(Machine {
+            site,
+            tiles,
+            links,
+            journal,
+        })
+    }
+
+    /// The setup, and the entries made so far.
+    pub fn journal(&self) -> &Journal {
+        &self.journal
+    }
+
+    /// Makes one event, and adds its entry.
+    pub fn step(&mut self, alloc: Global, event: Event) -> Result<(), StepRefusal> {
+        if self.journal.entries.len() == MOST_ENTRIES {
+            return Err(StepRefusal::Spent);
+        }
+        let made = match event {
+            Event::Do { act, command } => self.command(alloc, act, command),
+            Event::Take { to, from } => self.take(to, from),
+            _ => unreachable!(),
+        };
+        match made {
+            Ok(()) => Ok(()),
+            Err(_) => Err(StepRefusal::NoMemory),
+        }
+    }
     fn command(&mut self, alloc: Global, act: ActId, command: Command) -> Result<(), AllocError>
         requires declared { is_home (site self.old.setup) act ≡ true }
         requires room { length self.old.entries < 2097152 }
@@ -83,5 +145,59 @@ impl Machine {
         put_out(&mut self.links, tile, emit);
         add(&mut self.journal.entries, event, outcome);
         Ok(())
+    }
+
+    fn take(&mut self, to: TileId, from: TileId) -> Result<(), AllocError> {
+        let at = usize::from(to.number());
+        let event = Event::Take { to, from };
+        self.journal.entries.reserve(1)?;
+        let back = match self.links.front_id(from, to) {
+            None => to,
+            Some(id) => self.site.tile_of(id.issuer),
+        };
+        self.links.reserve(to, back)?;
+        self.links.reserve(to, TileId::new(0))?;
+        let did = match self.links.take(from, to) {
+            None => is_idle(IdleWhy::EmptyLink),
+            Some(Parcel::Data(packet)) => self.tiles[at].take_data(&self.site, packet),
+            Some(_) => unreachable!(),
+        };
+        let TileDid { outcome, emit } = did;
+        put_out(&mut self.links, to, emit);
+        add(&mut self.journal.entries, event, outcome);
+        Ok(())
+    }
+
+    /// The event that the driver makes next, where there is one: the take with the least receiving tile, then the least
+    /// sending tile, among links that aren't empty.
+    pub fn next(&self) -> Option<Event> {
+        for to in 0..16u8 {
+            for from in 0..16u8 {
+                let to = TileId::new(to);
+                let from = TileId::new(from);
+                if !self.links.is_empty(from, to) {
+                    return Some(Event::Take { to, from });
+                }
+            }
+        }
+        None
+    }
+
+    /// The closing lines: the credits of each send grant, the current activity of each tile from 2 on, the flights, and
+    /// whether the driver has nothing more to do.
+    pub fn audit(&self, alloc: Global) -> Result<Audit, AllocError> {
+        let mut lines = Vec::new(alloc);
+        credit_lines(
+            alloc,
+            &self.site,
+            &self.journal.setup,
+            &self.tiles,
+            &self.links,
+            &mut lines,
+        )?;
+        tile_lines(self.journal.setup.tiles(), &self.tiles, &mut lines)?;
+        lines.push(AuditLine::Flights(self.links.flights()))?;
+        lines.push(AuditLine::Quiet(self.next().is_none()))?;
+        Ok(Audit { lines })
     }
 }

@@ -7,7 +7,9 @@ ghost use Rattle.m3_base.specs.declared.setup_line.SetupLine.{SetupLine};
 ghost use Rattle.m3_machine.specs.Table.{HasContexts};
 ghost use Rattle.m3_machine.specs.Progress.{Progress, CanInstall};
 
-use m3_base::ids::{ActId, EpId, GrantId};
+use crate::site::Site;
+use crate::tile::TilePart;
+use m3_base::ids::{ActId, EpId, GrantId, TileId};
 use m3_base::order::GrantLine;
 use m3_base::packet::Fresh;
 use m3_base::setup::Setup;
@@ -45,4 +47,62 @@ fn install(table: &mut Vec<Option<Context>>, act: ActId, ep: EpId, fresh: Fresh)
         None => unreachable!(),
         Some(context) => context.install(ep, fresh),
     }
+}
+
+/// The grant of this line, of which there are `count` before, stands at its holder's endpoint. It answers how many there
+/// are then.
+fn grant(setup: &Setup, table: &mut Vec<Option<Context>>, count: u16, line: &GrantLine) -> u16 {
+    match setup.fresh(GrantId::new(count + 1)) {
+        None => unreachable!(),
+        Some(fresh) => {
+            install(table, line.act(), line.ep(), fresh);
+            count + 1
+        }
+    }
+}
+
+/// A line of the setup.
+fn read(
+    alloc: Global,
+    setup: &Setup,
+    table: &mut Vec<Option<Context>>,
+    count: u16,
+    line: &SetupLine,
+) -> Result<u16, AllocError> {
+    match line {
+        SetupLine::Act { act, .. } => {
+            declare(alloc, table, *act)?;
+            Ok(count)
+        }
+        SetupLine::Grant(line) => Ok(grant(setup, table, count, line)),
+        _ => Ok(count),
+    }
+}
+
+/// The contexts of the setup's activities at opening, by their numbers.
+pub fn contexts(alloc: Global, setup: &Setup) -> Result<Vec<Option<Context>>, AllocError> {
+    let mut table = no_contexts(alloc)?;
+    let mut count = 0;
+    for line in setup.lines() {
+        count = read(alloc, setup, &mut table, count, line)?;
+    }
+    Ok(table)
+}
+
+fn no_tiles(alloc: Global) -> Result<Vec<TilePart>, AllocError> {
+    let mut tiles = Vec::new(alloc);
+    for number in 0..16u8 {
+        tiles.push(TilePart::new(alloc, TileId::new(number)))?;
+    }
+    Ok(tiles)
+}
+
+/// The tiles, each with the activities at home there and the context of the first.
+pub fn seated(alloc: Global, site: &Site, table: &mut Vec<Option<Context>>) -> Result<Vec<TilePart>, AllocError> {
+    let mut tiles = no_tiles(alloc)?;
+    for home in site.homes() {
+        let context = table[usize::from(home.act().number())].take();
+        tiles[usize::from(home.tile().number())].seat(home.act(), context)?;
+    }
+    Ok(tiles)
 }

@@ -32,6 +32,22 @@ pub struct Site {
     memory: u32,
 }
 
+impl Home {
+    /// Its activity.
+    pub fn act(&self) -> ActId
+        ensures { result ≡ self.now.act }
+    {
+        self.act
+    }
+
+    /// Its tile.
+    pub fn tile(&self) -> TileId
+        ensures { result ≡ self.now.tile }
+    {
+        self.tile
+    }
+}
+
 impl Model for Site {
     ghost use Rattle.std.specs.Prelude.{map};
     ghost use Rattle.m3_machine.specs.Parts.{Site as SiteValue};
@@ -107,6 +123,11 @@ impl Site {
             site.read(line)?;
         }
         Ok(site)
+    }
+
+    /// The activities, as declared.
+    pub fn homes(&self) -> &[Home] {
+        self.homes.as_slice()
     }
 
     /// The home tile of this activity, or none where the setup doesn't declare it.

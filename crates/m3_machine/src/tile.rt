@@ -1,12 +1,13 @@
 //! A tile's part: its current activity, whose commands it issues and whose packets it takes.
 
-ghost use Rattle.std.specs.Prelude.{◌≡◌, ◌∷◌, [], IfOk, OnErr, IsSome, None, Some};
+ghost use Rattle.std.specs.Prelude.{◌≡◌, ◌∷◌, [], IfOk, OnErr, IsSome, None, Some, option_copied};
 ghost use Rattle.m3_core.specs.Conditions.{IsBufferFor};
 ghost use Rattle.m3_base.specs.Places.{target, is_here};
 ghost use Rattle.m3_machine.specs.Parts.{closed_out};
 ghost use Rattle.m3_machine.specs.Tile.{tile_do, new_out, act_in, arrive_named, take_data};
 ghost use Rattle.m3_machine.specs.Telling.{said_issued, packet_issued, plain, credit_of, said_credit, said_came, out_came, NamesCredit, Lands, Does};
 ghost use Rattle.m3_machine.specs.Parcels.{parcel_of, out_of};
+ghost use Rattle.m3_machine.specs.Machine.{empty_tile};
 ghost use Rattle.m3_machine.specs.TileView.{CanIssue, aim_at};
 
 use crate::aims::aim;
@@ -60,7 +61,8 @@ fn says(said: Said, emit: Option<Emit>) -> TileDid
     TileDid { outcome, emit }
 }
 
-fn is_idle(why: IdleWhy) -> TileDid
+/// An event that changed nothing.
+pub fn is_idle(why: IdleWhy) -> TileDid
     ensures outcome { result.outcome ≡ plain (Said.Idle why) }
     ensures out { out_of result.emit ≡ [] }
 {
@@ -206,6 +208,33 @@ fn land(site: &Site, context: &mut Context, packet: Packet) -> TileDid
 }
 
 impl TilePart {
+    /// A tile without activities.
+    pub fn new(alloc: Global, tile: TileId) -> TilePart
+        ensures { result ≡ empty_tile tile }
+    {
+        TilePart {
+            tile,
+            acts: Vec::new(alloc),
+            current: None,
+        }
+    }
+
+    /// One more activity has its home here. It runs, with this context, where it is the first.
+    pub fn seat(&mut self, act: ActId, context: Option<Context>) -> Result<(), AllocError> {
+        self.acts.push(act)?;
+        if self.current.is_none() {
+            self.current = context;
+        }
+        Ok(())
+    }
+
+    /// The context of the current activity.
+    pub fn current(&self) -> Option<&Context>
+        ensures { option_copied result ≡ self.now.current }
+    {
+        self.current.as_ref()
+    }
+
     /// The tile that the packet of this command goes to, where one arises.
     pub fn aim(&self, site: &Site, command: &Command) -> TileId
         ensures { result ≡ aim_at site.now self.now.current command.now }
