@@ -1,5 +1,5 @@
 -- The machine's step at a command, from the tile's.
-use Rattle.std.proofs.Common.{◌≡◌, ℕ, zero, suc, ◌+◌, ◌*◌, ◌<◌, ◌≤◌, Bool, true, false, List, [], ◌∷◌, ◌++◌, length, map, get_or, set, Option, Some, None, refl, sym, ap, ◌∙◌, subst, arith, ⊎_elim}
+use Rattle.std.proofs.Common.{◌≡◌, ℕ, zero, suc, ◌+◌, ◌*◌, ◌<◌, ◌≤◌, Bool, true, false, List, [], ◌∷◌, ◌++◌, length, length-append, map, get_or, set, Option, Some, None, refl, sym, ap, ◌∙◌, subst, arith, ⊎_elim}
 use Rattle.std.specs.Prelude.{if◌then◌else◌, ◌==◌}
 use Rattle.std.proofs.lemmas.List.{get_or-set_same, get_or-set_other, get_or_default, length-set, map-set, map-append}
 use Rattle.std.proofs.lemmas.Bool.{cases_eq}
@@ -25,7 +25,12 @@ use Rattle.m3_machine.specs.Parcels.{parcel_of, parcels_of, out_of}
 use Rattle.m3_machine.specs.Aims.{aim_of}
 use Rattle.m3_machine.specs.TileView.{aim_at}
 use Rattle.m3_machine.specs.Low.{HasLow, LowIn, AreLow}
-use Rattle.m3_machine.specs.Whole.{out_links, HasRoomFor}
+use Rattle.m3_base.specs.declared.event.Entry.{Entry}
+use Rattle.m3_base.specs.Setup.{SetupValue, IsValid}
+use Rattle.m3_machine.specs.Parts.{Home, home_of, tile_in}
+use Rattle.m3_machine.specs.Homes.{home_tile}
+use Rattle.m3_machine.specs.Whole.{Whole, site, machine_of, entry, out_links, HasRoomFor, Steps}
+use Rattle.m3_machine.proofs.Valid.{home_high}
 use Rattle.m3_machine.specs.Machine as plain
 use Rattle.m3_machine.proofs.Aiming.{issue_goes, GoesTo, AllGo}
 use Rattle.m3_machine.proofs.Numbers.{AllLow, issue_low, low_more}
@@ -123,6 +128,20 @@ low_set n at tiles new low l t d within =
     still None l = tt
     still (Some x) l = low_more n x l
 
+-- the tile at a place made a command, and the journal has one entry more
+pub low_did : (h : Site) (a : ℕ) (command : Command) (n m at : ℕ) (tiles : List Tile) (part new : Tile) (d : TileDid) → Does d new (tile_do h part a command) → m ≡ n + 1 → at < length tiles → part ≡ get_or tiles at part → AreLow n tiles → AreLow m (set tiles at new)
+low_did h a command n m at tiles part new d does more within read low =
+    subst (λ (k : ℕ). AreLow k (set tiles at new)) (sym more) (
+    low_set n at tiles new low (
+    subst (λ (x : Tile). LowIn (n + 1) x.current) (sym does.part) (
+    do_low h part a command n (subst (λ (x : Tile). LowIn n x.current) (sym read) (low at part within))
+    )
+    )
+    )
+
+pub one_more : {X : Type 0} (old new : List X) (x : X) → new ≡ old ++ x ∷ [] → length new ≡ length old + 1
+one_more old new x e = ap length e ∙ length-append old (x ∷ [])
+
 -- ---- the step
 
 module _ (h : Site) (m : plain.Machine) (t a : ℕ) (command : Command) (at_home : tile_of h a ≡ t) (high : 2 ≤ t) (low : t < length m.tiles) where
@@ -149,3 +168,45 @@ module _ (h : Site) (m : plain.Machine) (t a : ℕ) (command : Command) (at_home
           machine = (pushed_links (plain.with_part t (plain.Is_tile (tile_do h (plain.tile_at t m) a command).part) m) t (tile_do h (plain.tile_at t m) a command).out
             ∙ (λ j. record m { tiles = (sym (is ∙ ap (set m.tiles t) does.part)) j; links = (ap (λ o. out_links t o m.links) (sym does.out ∙ ap out_of (sym sent)) ∙ sym out) j })) i;
         })
+
+-- ---- a whole machine
+
+home_of_tile : (o : Option Home) (t : ℕ) → home_tile o ≡ Some t → tile_in o ≡ t
+home_of_tile None t e = absurd (cc)
+home_of_tile (Some y) t e = some_number y.tile t e
+  where
+    some_number : (x y : ℕ) → Some x ≡ Some y → x ≡ y
+    some_number x y w = cc
+
+-- the tile of the activity makes a command
+module _ (s : SetupValue) (h : Site) (tiles : List Tile) (links : List (List CodeParcel)) (entries : List Entry) (t at a : ℕ) (command : Command) (part new : Tile)
+  (is_site : h ≡ site s) (valid : IsValid s) (home : home_tile (home_of a h) ≡ Some t) (index : at ≡ t) (count : length tiles ≡ 16) (read : part ≡ get_or tiles at part) where
+  there : (tile_of (site s) a ≡ t) × (2 ≤ t) × (t < 16)
+  there = home_high s valid a t (subst (λ (x : Site). home_tile (home_of a x) ≡ Some t) is_site home)
+
+  part_is : part ≡ plain.tile_at t (machine_of s tiles links)
+  part_is = read ∙ get_or_default tiles at part (plain.empty_tile t) (omega (arith, count, index, there.2)) ∙ ap (λ k. get_or tiles k (plain.empty_tile t)) index
+
+  pub made : (emit : Option Emit) (d : TileDid) (links' : List (List CodeParcel)) → Does d new (tile_do h part a command) → emit ≡ d.emit
+    → parcels_of links' ≡ out_links t (out_of emit) (parcels_of links)
+    → Steps (record { setup = s; machine = machine_of s tiles links; entries = entries }) (Event.Do a command) (record { setup = s; machine = machine_of s (set tiles at new) links'; entries = entries ++ entry (Event.Do a command) d.outcome ∷ [] })
+  made emit d links' does sent out = record {
+    outcome = d.outcome;
+    added = refl;
+    moved =
+        does_step (site s) (machine_of s tiles links) t a command there.0 there.1 (omega (arith, count, there.2)) (set tiles at new) new emit d (parcels_of links')
+          (subst (λ (x : Tile). Does d new (tile_do (site s) x a command)) part_is (subst (λ (x : Site). Does d new (tile_do x part a command)) is_site does)) sent
+          (ap (λ k. set tiles k new) index) out;
+    setup = refl;
+  }
+
+  pub made_on : (old : Whole) (es : List Entry) (emit : Option Emit) (d : TileDid) (links' : List (List CodeParcel)) → record { setup = s; machine = machine_of s tiles links; entries = entries } ≡ old
+    → es ≡ entries ++ entry (Event.Do a command) d.outcome ∷ [] → Does d new (tile_do h part a command) → emit ≡ d.emit
+    → parcels_of links' ≡ out_links t (out_of emit) (parcels_of links)
+    → Steps old (Event.Do a command) (record { setup = s; machine = machine_of s (set tiles at new) links'; entries = es })
+  made_on old es emit d links' is added does sent out =
+      subst (λ (w : Whole). Steps w (Event.Do a command) (record { setup = s; machine = machine_of s (set tiles at new) links'; entries = es })) is (
+      subst (λ (xs : List Entry). Steps (record { setup = s; machine = machine_of s tiles links; entries = entries }) (Event.Do a command) (record { setup = s; machine = machine_of s (set tiles at new) links'; entries = xs })) (sym added) (
+      made emit d links' does sent out
+      )
+      )

@@ -1,6 +1,6 @@
 -- The code's parcels.
 use Rattle.std.specs.Prelude.{ℕ, List, [], ◌∷◌, Option, Some, None, map}
-use Rattle.m3_base.specs.declared.ids.FlightId.{FlightId}
+use Rattle.m3_machine.specs.declared.links.Front.{Front}
 use Rattle.m3_base.specs.Flight.{name_of}
 use Rattle.m3_core.specs.declared.parcel.Emit.{Emit}
 use Rattle.m3_core.specs.declared.parcel.Heard.{Heard as CodeHeard}
@@ -26,8 +26,8 @@ abbrev pub out_of : Option Emit → List (ℕ × Parcel)
 out_of None = []
 out_of (Some e) = (e.to, parcel_of e.parcel) ∷ []
 
--- the name of the flight at the front
-abbrev pub front_name : List CodeParcel → Option FlightId
-front_name [] = None
-front_name (CodeParcel.Data p ∷ ps) = Some (name_of p)
-front_name (p ∷ ps) = None
+-- what is at the front
+abbrev pub front_of : List CodeParcel → Front
+front_of [] = Front.Nothing
+front_of (CodeParcel.Data p ∷ ps) = Front.Data (name_of p)
+front_of (p ∷ ps) = Front.Other

@@ -1,14 +1,16 @@
 -- A machine with its setup and its journal, and what one step of it is.
-use Rattle.std.specs.Prelude.{◌≡◌, ℕ, ◌+◌, ◌*◌, ◌<◌, ◌≤◌, List, [], ◌∷◌, ◌++◌, length, map, slice_index_or, slice_set, Option, Some, None}
+use Rattle.std.specs.Prelude.{◌≡◌, ℕ, ◌+◌, ◌*◌, ◌<◌, ◌≤◌, true, List, [], ◌∷◌, ◌++◌, length, map, slice_index_or, slice_set, Option, Some, None}
 use Rattle.m3_base.specs.declared.event.Event.{Event}
 use Rattle.m3_base.specs.declared.event.Outcome.{Outcome}
 use Rattle.m3_base.specs.declared.event.Entry.{Entry}
 use Rattle.m3_base.specs.declared.command.Command.{Command}
 use Rattle.m3_base.specs.Context.{Context, endpoint}
-use Rattle.m3_base.specs.Setup.{SetupValue}
+use Rattle.m3_base.specs.declared.ids.FlightId.{FlightId}
+use Rattle.m3_base.specs.Flight.{name_of}
+use Rattle.m3_base.specs.Setup.{SetupValue, IsValid}
 use Rattle.m3_machine.specs.declared.machine.Machine.TheInside.{Inside}
-use Rattle.m3_machine.specs.Parts.{Site, Parcel, Tile}
-use Rattle.m3_machine.specs.Naming.{is_home, next_token_at}
+use Rattle.m3_machine.specs.Parts.{Site, Parcel, Data, Save, Saved, Restore, Yield, Closed, Tile}
+use Rattle.m3_machine.specs.Naming.{is_home}
 use Rattle.std.specs.declared.collections.VecDeque.{VecDeque}
 use Rattle.std.specs.declared.alloc.Global.{Global}
 use Rattle.m3_core.specs.declared.parcel.Emit.{Emit}
@@ -16,7 +18,7 @@ use Rattle.m3_core.specs.declared.parcel.Parcel.{Parcel as CodeParcel}
 use Rattle.m3_machine.specs.Parcels.{parcels_of}
 use Rattle.m3_machine.specs.Low.{AreLow}
 use Rattle.m3_machine.specs.Links.{place, lists_in, HasRoom}
-use Rattle.m3_machine.specs.Machine.{Machine, mstep, opened_machine, site_of}
+use Rattle.m3_machine.specs.Machine.{Machine, link_at, mstep, opened_machine, site_of}
 
 pub record Whole : Type 0 where
   pub setup : SetupValue
@@ -47,6 +49,7 @@ whole_of m =
 
 pub record IsWhole (m : Inside) : Type 0 where
   pub site : m.site ≡ site m.journal.setup
+  pub valid : IsValid m.journal.setup
   pub tiles : length m.tiles.items ≡ 16
   pub entries : length m.journal.entries.items ≤ 2097152
   pub low : AreLow (length m.journal.entries.items) m.tiles.items
@@ -62,6 +65,36 @@ pub record Steps (old : Whole) (e : Event) (new : Whole) : Type 0 where
   pub added : new.entries ≡ old.entries ++ entry e outcome ∷ []
   pub moved : mstep (site old.setup) old.machine e None ≡ Some (record { outcome = outcome; machine = new.machine })
   pub setup : new.setup ≡ old.setup
+
+-- the machine of today makes commands of the setup's activities, and takes
+abbrev pub IsMade : Site → Event → Type 0
+IsMade h (Event.Do a c) = is_home h a ≡ true
+IsMade h (Event.Take to from) = Unit {0}
+IsMade h event = ⊥
+
+-- data is at the front
+abbrev pub IsData : List Parcel → Type 0
+IsData [] = ⊥
+IsData (Data p ∷ ps) = Unit {0}
+IsData (q ∷ ps) = ⊥
+
+abbrev pub IsSome_parcel : List Parcel → Type 0
+IsSome_parcel [] = ⊥
+IsSome_parcel (q ∷ ps) = Unit {0}
+
+-- the parcel at the front is for the kernel or the memory, or is no data
+abbrev pub IsUnserved : Machine → Event → Type 0
+IsUnserved m (Event.Take to from) = IsSome_parcel (link_at from to m) × (2 ≤ to → IsData (link_at from to m) → ⊥)
+IsUnserved m event = ⊥
+
+abbrev pub IsNamedAt : FlightId → List Parcel → Type 0
+IsNamedAt id [] = ⊥
+IsNamedAt id (Data p ∷ ps) = name_of p ≡ id
+IsNamedAt id (q ∷ ps) = ⊥
+
+-- a packet of this flight is at the front of that link
+abbrev pub HasFront : Machine → ℕ → ℕ → FlightId → Type 0
+HasFront m from to id = IsNamedAt id (link_at from to m)
 
 -- ---- what goes out
 

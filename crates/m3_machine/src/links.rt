@@ -2,7 +2,7 @@
 
 ghost use Rattle.std.specs.Prelude.{◌≡◌, ℕ, ◌+◌, ◌*◌, ◌<◌, length, replicate, [], OnOk, IfOk};
 ghost use Rattle.m3_machine.specs.Links.{lists_in, pushed, popped, place, first, list_at, HasRoom};
-ghost use Rattle.m3_machine.specs.Parcels.{front_name};
+ghost use Rattle.m3_machine.specs.Parcels.{front_of};
 
 use m3_base::ids::{FlightId, TileId};
 use m3_core::parcel::Parcel;
@@ -14,6 +14,17 @@ use std::collections::VecDeque;
 pub struct Links {
     links: Vec<VecDeque<Parcel>>,
     ghost full: { length links.items ≡ 256 },
+}
+
+/// What is at the front of a link.
+#[derive(Clone, Copy, Debug, PartialEq, Eq, Drop)]
+pub enum Front {
+    /// The link is empty.
+    Nothing,
+    /// A packet of this flight.
+    Data(FlightId),
+    /// Another parcel.
+    Other,
 }
 
 /// The place of a link among all.
@@ -73,14 +84,15 @@ impl Links {
         self.links[at].pop_front()
     }
 
-    /// The name of the flight at the front of this link, where there is one.
-    pub fn front_id(&self, from: TileId, to: TileId) -> Option<FlightId>
-        ensures { result ≡ front_name (list_at (lists_in self.now.links.items) (place from to)) }
+    /// What is at the front of this link.
+    pub fn front(&self, from: TileId, to: TileId) -> Front
+        ensures { result ≡ front_of (list_at (lists_in self.now.links.items) (place from to)) }
     {
         let at = place(from, to);
         match self.links[at].front() {
-            Some(Parcel::Data(packet)) => Some(packet.id()),
-            _ => None,
+            None => Front::Nothing,
+            Some(Parcel::Data(packet)) => Front::Data(packet.id()),
+            Some(_) => Front::Other,
         }
     }
 

@@ -1,20 +1,21 @@
 //! The machine: its step and its journal.
 
-ghost use Rattle.std.specs.Prelude.{◌≡◌, ℕ, ◌<◌, ◌≤◌, ◌++◌, ◌∷◌, [], true, length, OnOk, OnErr, IfOk, vec_len, vec_capacity, Some};
+ghost use Rattle.std.specs.Prelude.{◌≡◌, ◌≢◌, ◌↔◌, ◌<◌, ◌≤◌, ◌++◌, ◌∷◌, [], true, length, OnOk, OnErr, IfErr, Err, vec_len, vec_capacity};
 ghost use Rattle.m3_base.specs.declared.event.Event.{Event};
+ghost use Rattle.m3_machine.specs.declared.machine.StepRefusal.{StepRefusal};
 ghost use Rattle.m3_machine.specs.Links.{place, lists_in, pushed, HasRoom};
 ghost use Rattle.m3_machine.specs.Naming.{is_home};
 ghost use Rattle.m3_machine.specs.Parcels.{parcels_of, out_of};
-ghost use Rattle.m3_machine.specs.Whole.{site, entry, out_links, HasRoomFor, Steps};
+ghost use Rattle.m3_machine.specs.Whole.{site, entry, out_links, HasRoomFor, IsMade, IsUnserved, HasFront, Steps};
 
 use crate::audit::{credit_lines, tile_lines};
-use crate::links::Links;
+use crate::links::{Front, Links};
 use crate::opening::{contexts, seated};
 use crate::site::Site;
 use crate::tile::{is_idle, TileDid, TilePart};
 use m3_base::command::Command;
 use m3_base::event::{Entry, Event, IdleWhy, Outcome};
-use m3_base::ids::{ActId, TileId};
+use m3_base::ids::{ActId, FlightId, TileId};
 use m3_base::journal::{Audit, AuditLine, Journal};
 use m3_base::setup::Setup;
 use m3_core::parcel::{Emit, Parcel};
@@ -52,6 +53,16 @@ pub enum StepRefusal {
     Spent,
     /// No memory was left for the entry or for what it moves.
     NoMemory,
+    /// The parcel at the front is for the kernel or for the memory, which take none yet.
+    Unserved,
+}
+
+impl From<AllocError> for StepRefusal {
+    ghost from_gives = { λ _ e. e ≡ StepRefusal.NoMemory };
+
+    fn from(_error: AllocError) -> StepRefusal {
+        StepRefusal::NoMemory
+    }
 }
 
 /// A parcel joins its link, which has room for it.
@@ -108,26 +119,31 @@ impl Machine {
         &self.journal
     }
 
-    /// Makes one event, and adds its entry.
-    pub fn step(&mut self, alloc: Global, event: Event) -> Result<(), StepRefusal> {
+    /// Makes one event, and adds its entry. `Spent` comes exactly where the journal has as many entries as it may have.
+    /// After a refusal the machine is as before.
+    pub fn step(&mut self, alloc: Global, event: Event) -> Result<(), StepRefusal>
+        requires { IsMade (site self.old.setup) event }
+        ensures ok { OnOk result (Steps self.old event self.new) }
+        ensures err { OnErr result (self.new ≡ self.old) }
+        ensures spent { result ≡ Err StepRefusal.Spent ↔ length self.old.entries ≡ 2097152 }
+        ensures unserved { result ≡ Err StepRefusal.Unserved → IsUnserved self.old.machine event }
+    {
         if self.journal.entries.len() == MOST_ENTRIES {
             return Err(StepRefusal::Spent);
         }
-        let made = match event {
+        match event {
             Event::Do { act, command } => self.command(alloc, act, command),
             Event::Take { to, from } => self.take(to, from),
             _ => unreachable!(),
-        };
-        match made {
-            Ok(()) => Ok(()),
-            Err(_) => Err(StepRefusal::NoMemory),
         }
     }
-    fn command(&mut self, alloc: Global, act: ActId, command: Command) -> Result<(), AllocError>
+
+    fn command(&mut self, alloc: Global, act: ActId, command: Command) -> Result<(), StepRefusal>
         requires declared { is_home (site self.old.setup) act ≡ true }
         requires room { length self.old.entries < 2097152 }
         ensures ok { OnOk result (Steps self.old (Event.Do act command) self.new) }
         ensures err { OnErr result (self.new ≡ self.old) }
+        ensures memory { IfErr result (λ e. e ≡ StepRefusal.NoMemory) }
     {
         let Some(tile) = self.site.home(act) else {
             unreachable!();
@@ -147,25 +163,48 @@ impl Machine {
         Ok(())
     }
 
-    fn take(&mut self, to: TileId, from: TileId) -> Result<(), AllocError> {
-        let at = usize::from(to.number());
-        let event = Event::Take { to, from };
+    fn take(&mut self, to: TileId, from: TileId) -> Result<(), StepRefusal>
+        requires room { length self.old.entries < 2097152 }
+        ensures ok { OnOk result (Steps self.old (Event.Take to from) self.new) }
+        ensures err { OnErr result (self.new ≡ self.old) }
+        ensures memory { IfErr result (λ e. e ≢ StepRefusal.Spent) }
+        ensures unserved { result ≡ Err StepRefusal.Unserved → IsUnserved self.old.machine (Event.Take to from) }
+    {
         self.journal.entries.reserve(1)?;
-        let back = match self.links.front_id(from, to) {
-            None => to,
-            Some(id) => self.site.tile_of(id.issuer),
-        };
+        match self.links.front(from, to) {
+            Front::Nothing => {
+                let TileDid { outcome, .. } = is_idle(IdleWhy::EmptyLink);
+                add(&mut self.journal.entries, Event::Take { to, from }, outcome);
+                Ok(())
+            }
+            Front::Data(id) if 2 <= to.number() => self.take_data(to, from, id),
+            _ => Err(StepRefusal::Unserved),
+        }
+    }
+
+    /// A tile takes the packet at the front, which is of this flight.
+    fn take_data(&mut self, to: TileId, from: TileId, id: FlightId) -> Result<(), StepRefusal>
+        requires room { length self.old.entries < 2097152 }
+        requires high { 2 ≤ to }
+        requires front { HasFront self.old.machine from to id }
+        ensures ok { OnOk result (Steps self.old (Event.Take to from) self.new) }
+        ensures err { OnErr result (self.new ≡ self.old) }
+        ensures memory { IfErr result (λ e. e ≡ StepRefusal.NoMemory) }
+    {
+        let at = usize::from(to.number());
+        let back = self.site.tile_of(id.issuer);
+        self.journal.entries.reserve(1)?;
         self.links.reserve(to, back)?;
         self.links.reserve(to, TileId::new(0))?;
-        let did = match self.links.take(from, to) {
-            None => is_idle(IdleWhy::EmptyLink),
-            Some(Parcel::Data(packet)) => self.tiles[at].take_data(&self.site, packet),
-            Some(_) => unreachable!(),
-        };
-        let TileDid { outcome, emit } = did;
-        put_out(&mut self.links, to, emit);
-        add(&mut self.journal.entries, event, outcome);
-        Ok(())
+        match self.links.take(from, to) {
+            Some(Parcel::Data(packet)) => {
+                let TileDid { outcome, emit } = self.tiles[at].take_data(&self.site, packet);
+                put_out(&mut self.links, to, emit);
+                add(&mut self.journal.entries, Event::Take { to, from }, outcome);
+                Ok(())
+            }
+            _ => unreachable!(),
+        }
     }
 
     /// The event that the driver makes next, where there is one: the take with the least receiving tile, then the least
