@@ -37,7 +37,7 @@ use Rattle.m3_machine.proofs.Numbers.{AllLow, issue_low, low_more}
 
 -- ---- links
 
-parcels_at : (links : List (List CodeParcel)) (k : ℕ) → get_or (parcels_of links) k [] ≡ map parcel_of (get_or links k [])
+pub parcels_at : (links : List (List CodeParcel)) (k : ℕ) → get_or (parcels_of links) k [] ≡ map parcel_of (get_or links k [])
 parcels_at [] k = refl
 parcels_at (l ∷ ls) zero = refl
 parcels_at (l ∷ ls) (suc k) = parcels_at ls k
@@ -58,15 +58,14 @@ pushed_links m from (x ∷ xs) = pushed_links (plain.pushed from x m) from xs
 
 -- ---- what a command sends has room
 
-first_to : List (ℕ × Parcel) → ℕ
+abbrev first_to : List (ℕ × Parcel) → ℕ
 first_to [] = 0
 first_to (x ∷ xs) = x.0
 
-head_of : (e : Emit) (m : ℕ) (q : Parcel) → out_of (Some e) ≡ (m, q) ∷ [] → e.to ≡ m
-unfolding first_to
+pub head_of : (e : Emit) (m : ℕ) (q : Parcel) → out_of (Some e) ≡ (m, q) ∷ [] → e.to ≡ m
 head_of e m q is = ap first_to is
 
-no_head : (e : Emit) → out_of (Some e) ≡ [] → ⊥
+pub no_head : (e : Emit) → out_of (Some e) ≡ [] → ⊥
 no_head e is = cc
 
 module _ (h : Site) (part : Tile) (a : ℕ) (command : Command) where
