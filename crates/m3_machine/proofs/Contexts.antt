@@ -18,7 +18,7 @@ use Rattle.m3_base.specs.Grants.{form, send_form, part_form, new_grant, holds_at
 use Rattle.m3_base.specs.Opening.{with_line, with_lines, granted, installed, opening}
 use Rattle.m3_base.specs.Setup.{Facts, SetupValue, IsValid, AllKept, InRange, no_lines, noted, all_noted, facts_of, refuses, home_in, with_grant, grant_added, is_machine, fresh_in}
 use Rattle.m3_base.proofs.SetupRules.{grant_allowed}
-use Rattle.m3_base.proofs.Obeying.{Ties, obeys, ties}
+use Rattle.m3_base.proofs.Obeying.{Ties, obeys, ties, tied_at_first}
 use Rattle.m3_machine.specs.Table.{HasContexts}
 use Rattle.m3_machine.specs.Low.{HasLow}
 use Rattle.m3_machine.specs.Naming.{next_token_at}
@@ -166,6 +166,12 @@ few_grants memory gs line e = grind (arith, nat_tests, e)
 
 -- ---- one line
 
+some_fresh : (f g : Fresh) → Some f ≡ Some g → f ≡ g
+some_fresh f g e = cc
+
+no_fresh : (f : Fresh) → Some f ≡ None → ⊥
+no_fresh f e = cc
+
 new_low : (a : ℕ) → HasLow 0 (new_context a)
 new_low a = record { number = omega arith; tokens = λ ep. subst (λ (e : Endpoint). next_token_at e ≤ 0) (sym (no_record ep)) (omega arith) }
 
@@ -214,9 +220,10 @@ module _ (setup : SetupValue) (table : List (Option Context)) (n : ℕ) where
       forms = p.forms;
       low = act_low;
       memory = p.memory;
+      limit = p.limit;
     }
 
-  module _ (line : GrantLine) (left : List SetupLine) (p : Progress setup table n (SetupLine.Grant line ∷ left)) (low : setup.memory ≤ 1048576) where
+  module _ (line : GrantLine) (left : List SetupLine) (p : Progress setup table n (SetupLine.Grant line ∷ left)) where
     pub obeyed : Obeys p.state (SetupLine.Grant line)
     obeyed = obeys p.facts p.state (SetupLine.Grant line) (tied _ p) p.kept.0 p.kept.1.0
 
@@ -254,7 +261,7 @@ module _ (setup : SetupValue) (table : List (Option Context)) (n : ℕ) where
 
     is_fresh : is_form fresh ≡ true
     is_fresh =
-        line_is_form p.facts.memory (length p.facts.grants + 1) line (undone above) fresh (subst (λ (k : ℕ). k ≤ 1048576) (sym p.memory) low) (limits _ _ p.kept.0) (undone_form above above_form) (is_inside p.facts.memory p.facts.grants line allowed) known.1
+        line_is_form p.facts.memory (length p.facts.grants + 1) line (undone above) fresh (subst (λ (k : ℕ). k ≤ 1048576) (sym p.memory) p.limit) (limits _ _ p.kept.0) (undone_form above above_form) (is_inside p.facts.memory p.facts.grants line allowed) known.1
       where
         limits : (a b : Bool) → (a || (not (is_in_limits line) || b)) ≡ false → is_in_limits line ≡ true
         limits a b e = grind (arith, e)
@@ -369,7 +376,23 @@ module _ (setup : SetupValue) (table : List (Option Context)) (n : ℕ) where
       forms = subst (λ (gs : List Grant). AreForms gs) (sym grants_after) (forms_more p.facts.grants (new_grant line fresh) p.forms is_fresh);
       low = subst (λ (s : State). (b : ℕ) (c : Context) → context_of b s.contexts ≡ Some c → HasLow 0 c) (sym state_after) still_low;
       memory = p.memory;
+      limit = p.limit;
     }
+
+    -- as the setup tells the record
+    module _ (f : Fresh) (told : fresh_in (grant_in (facts_of setup).grants (n + 1)) ≡ Some f) where
+      same_fresh : fresh ≡ f
+      same_fresh = some_fresh fresh f (sym is_granted ∙ told)
+
+      pub installs : CanInstall table (holder line) (holder_ep line) f
+      installs = subst (λ (x : Fresh). CanInstall table (holder line) (holder_ep line) x) same_fresh can_install
+
+      pub grants_step : (new : List (Option Context)) → ((c : Context) → get_or table (holder line) None ≡ Some c → new ≡ set table (holder line) (Some (with_endpoint c (holder_ep line) (opened f)))) → Progress setup new (n + 1) left
+      grants_step new is =
+          subst (λ (t : List (Option Context)). Progress setup t (n + 1) left) (ap (λ x. set table (holder line) (Some (with_endpoint before (holder_ep line) (opened x)))) same_fresh ∙ sym (is before (p.has.same (holder line) ∙ here.1))) grant_step
+
+    pub always_told : fresh_in (grant_in (facts_of setup).grants (n + 1)) ≡ None → ⊥
+    always_told none = no_fresh fresh (sym is_granted ∙ none)
 
   -- a line that declares no activity and makes no grant
   abbrev pub IsOther : SetupLine → Type 0
@@ -380,10 +403,49 @@ module _ (setup : SetupValue) (table : List (Option Context)) (n : ℕ) where
   pub other_step : (line : SetupLine) (left : List SetupLine) → IsOther line → Progress setup table n (line ∷ left) → Progress setup table n left
   other_step (SetupLine.Act a t) left i p = absurd i
   other_step (SetupLine.Grant line) left i p = absurd i
-  other_step (SetupLine.Quantum q) left i p = record { state = p.state; facts = noted (SetupLine.Quantum q) p.facts; grants = p.grants; room = p.room; homes = p.homes; kept = p.kept.1.1; opens = p.opens; ends = p.ends; has = p.has; count = p.count; free = p.free; forms = p.forms; low = p.low; memory = p.memory }
-  other_step (SetupLine.Files g) left i p = record { state = p.state; facts = noted (SetupLine.Files g) p.facts; grants = p.grants; room = p.room; homes = p.homes; kept = p.kept.1.1; opens = p.opens; ends = p.ends; has = p.has; count = p.count; free = p.free; forms = p.forms; low = p.low; memory = p.memory }
-  other_step (SetupLine.Item a c) left i p = record { state = p.state; facts = noted (SetupLine.Item a c) p.facts; grants = p.grants; room = p.room; homes = p.homes; kept = p.kept.1.1; opens = p.opens; ends = p.ends; has = p.has; count = p.count; free = p.free; forms = p.forms; low = p.low; memory = p.memory }
-  other_step (SetupLine.AwaitItem a e) left i p = record { state = p.state; facts = noted (SetupLine.AwaitItem a e) p.facts; grants = p.grants; room = p.room; homes = p.homes; kept = p.kept.1.1; opens = p.opens; ends = p.ends; has = p.has; count = p.count; free = p.free; forms = p.forms; low = p.low; memory = p.memory }
-  other_step (SetupLine.Writer a m d e c r b) left i p = record { state = p.state; facts = noted (SetupLine.Writer a m d e c r b) p.facts; grants = p.grants; room = p.room; homes = p.homes; kept = p.kept.1.1; opens = p.opens; ends = p.ends; has = p.has; count = p.count; free = p.free; forms = p.forms; low = p.low; memory = p.memory }
-  other_step (SetupLine.Reader a m d c r f) left i p = record { state = p.state; facts = noted (SetupLine.Reader a m d c r f) p.facts; grants = p.grants; room = p.room; homes = p.homes; kept = p.kept.1.1; opens = p.opens; ends = p.ends; has = p.has; count = p.count; free = p.free; forms = p.forms; low = p.low; memory = p.memory }
-  other_step (SetupLine.Boxed a k f) left i p = record { state = p.state; facts = noted (SetupLine.Boxed a k f) p.facts; grants = p.grants; room = p.room; homes = p.homes; kept = p.kept.1.1; opens = p.opens; ends = p.ends; has = p.has; count = p.count; free = p.free; forms = p.forms; low = p.low; memory = p.memory }
+  other_step (SetupLine.Quantum q) left i p = record { state = p.state; facts = noted (SetupLine.Quantum q) p.facts; grants = p.grants; room = p.room; homes = p.homes; kept = p.kept.1.1; opens = p.opens; ends = p.ends; has = p.has; count = p.count; free = p.free; forms = p.forms; low = p.low; memory = p.memory; limit = p.limit }
+  other_step (SetupLine.Files g) left i p = record { state = p.state; facts = noted (SetupLine.Files g) p.facts; grants = p.grants; room = p.room; homes = p.homes; kept = p.kept.1.1; opens = p.opens; ends = p.ends; has = p.has; count = p.count; free = p.free; forms = p.forms; low = p.low; memory = p.memory; limit = p.limit }
+  other_step (SetupLine.Item a c) left i p = record { state = p.state; facts = noted (SetupLine.Item a c) p.facts; grants = p.grants; room = p.room; homes = p.homes; kept = p.kept.1.1; opens = p.opens; ends = p.ends; has = p.has; count = p.count; free = p.free; forms = p.forms; low = p.low; memory = p.memory; limit = p.limit }
+  other_step (SetupLine.AwaitItem a e) left i p = record { state = p.state; facts = noted (SetupLine.AwaitItem a e) p.facts; grants = p.grants; room = p.room; homes = p.homes; kept = p.kept.1.1; opens = p.opens; ends = p.ends; has = p.has; count = p.count; free = p.free; forms = p.forms; low = p.low; memory = p.memory; limit = p.limit }
+  other_step (SetupLine.Writer a m d e c r b) left i p = record { state = p.state; facts = noted (SetupLine.Writer a m d e c r b) p.facts; grants = p.grants; room = p.room; homes = p.homes; kept = p.kept.1.1; opens = p.opens; ends = p.ends; has = p.has; count = p.count; free = p.free; forms = p.forms; low = p.low; memory = p.memory; limit = p.limit }
+  other_step (SetupLine.Reader a m d c r f) left i p = record { state = p.state; facts = noted (SetupLine.Reader a m d c r f) p.facts; grants = p.grants; room = p.room; homes = p.homes; kept = p.kept.1.1; opens = p.opens; ends = p.ends; has = p.has; count = p.count; free = p.free; forms = p.forms; low = p.low; memory = p.memory; limit = p.limit }
+  other_step (SetupLine.Boxed a k f) left i p = record { state = p.state; facts = noted (SetupLine.Boxed a k f) p.facts; grants = p.grants; room = p.room; homes = p.homes; kept = p.kept.1.1; opens = p.opens; ends = p.ends; has = p.has; count = p.count; free = p.free; forms = p.forms; low = p.low; memory = p.memory; limit = p.limit }
+
+-- ---- the whole setup
+
+pub begins : (s : SetupValue) (table : List (Option Context)) → IsValid s → table ≡ replicate 64 None → Progress s table 0 s.lines
+begins s table v none = record {
+  state = opening s.memory [];
+  facts = no_lines s.tiles s.memory;
+  grants = first.grants;
+  room = first.room;
+  homes = first.homes;
+  kept = v.lines;
+  opens = refl;
+  ends = refl;
+  has = record { count = ap length none ∙ length-replicate {A = Option Context} 64 None; same = λ a. ap (λ t. get_or t a None) none ∙ empty a };
+  count = refl;
+  free = λ a ep c there. absurd (cc);
+  forms = λ g x there. absurd (none_made g x there);
+  low = λ a c there. absurd (cc);
+  memory = refl;
+  limit = memory_limit s.tiles s.memory v.machine;
+}
+  where
+    first : Ties (no_lines s.tiles s.memory) (opening s.memory [])
+    first = tied_at_first s.tiles s.memory
+
+    empty : (a : ℕ) → get_or {A = Option Context} (replicate 64 None) a None ≡ None
+    empty a = ⊎_elim (λ low. get_or-replicate 64 a None None low) (λ high. get_or_past (replicate 64 None) a None (omega (arith, length-replicate {A = Option Context} 64 None, high))) (cases_lt a 64)
+
+    none_made : (g : ℕ) (x : Grant) → grant_in [] g ≡ Some x → ⊥
+    none_made g x e = grind (arith, nat_tests, e)
+
+    memory_limit : (t m : ℕ) → is_machine t m ≡ true → m ≤ 1048576
+    memory_limit t m e = grind (arith, nat_tests, e)
+
+pub all_there : (s : SetupValue) (table : List (Option Context)) (n : ℕ) → Progress s table n [] → HasContexts table (opening s.memory s.lines).contexts
+all_there s table n p = subst (λ (x : State). HasContexts table x.contexts) p.opens p.has
+
+pub all_low : (s : SetupValue) (table : List (Option Context)) (n : ℕ) → Progress s table n [] → (a : ℕ) (c : Context) → get_or table a None ≡ Some c → HasLow 0 c
+all_low s table n p a c there = p.low a c (sym (p.has.same a) ∙ there)

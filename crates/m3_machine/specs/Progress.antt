@@ -1,5 +1,5 @@
 -- How far the contexts of an opening have come.
-use Rattle.std.specs.Prelude.{◌≡◌, ℕ, Bool, true, false, List, ◌∷◌, length, Option, Some, None, is_some, slice_index_or}
+use Rattle.std.specs.Prelude.{◌≡◌, ℕ, ◌≤◌, Bool, true, false, List, ◌∷◌, length, Option, Some, None, is_some, slice_index_or}
 use Rattle.std.specs.List.{list_any}
 use Rattle.m3_base.specs.declared.packet.Fresh.{Fresh}
 use Rattle.m3_base.specs.declared.setup_line.SetupLine.{SetupLine}
@@ -35,6 +35,7 @@ pub record Progress (setup : SetupValue) (table : List (Option Context)) (n : �
   pub forms : AreForms facts.grants
   pub low : (a : ℕ) (c : Context) → context_of a state.contexts ≡ Some c → HasLow 0 c
   pub memory : facts.memory ≡ setup.memory
+  pub limit : setup.memory ≤ 1048576
 
 -- an activity is there, with a free endpoint for a record in its ranges
 pub record CanInstall (table : List (Option Context)) (a ep : ℕ) (fresh : Fresh) : Type 0 where

@@ -5,7 +5,8 @@ ghost use Rattle.m3_base.specs.Context.{Context, new_context, with_endpoint, ope
 ghost use Rattle.m3_base.specs.Opening.{opening};
 ghost use Rattle.m3_base.specs.declared.setup_line.SetupLine.{SetupLine};
 ghost use Rattle.m3_machine.specs.Table.{HasContexts};
-ghost use Rattle.m3_machine.specs.Progress.{Progress, CanInstall};
+ghost use Rattle.m3_machine.specs.Progress.{AtLine, Progress, CanInstall};
+ghost use Rattle.m3_machine.specs.Low.{HasLow, AreLow};
 
 use crate::site::Site;
 use crate::tile::TilePart;
@@ -51,24 +52,31 @@ fn install(table: &mut Vec<Option<Context>>, act: ActId, ep: EpId, fresh: Fresh)
 
 /// The grant of this line, of which there are `count` before, stands at its holder's endpoint. It answers how many there
 /// are then.
-fn grant(setup: &Setup, table: &mut Vec<Option<Context>>, count: u16, line: &GrantLine) -> u16 {
-    match setup.fresh(GrantId::new(count + 1)) {
+fn grant(setup: &Setup, table: &mut Vec<Option<Context>>, count: u16, line: &GrantLine) -> u16
+    requires { AtLine setup.now table.old.items count (SetupLine.Grant line.now) }
+    ensures { (left : List SetupLine) → Progress setup.now table.old.items count (SetupLine.Grant line.now ∷ left) → Progress setup.now table.new.items result left }
+{
+    let number = count + 1;
+    match setup.fresh(GrantId::new(number)) {
         None => unreachable!(),
         Some(fresh) => {
             install(table, line.act(), line.ep(), fresh);
-            count + 1
+            number
         }
     }
 }
 
-/// A line of the setup.
+/// A line of the setup, before which there are `count` grants. It answers how many there are then.
 fn read(
     alloc: Global,
     setup: &Setup,
     table: &mut Vec<Option<Context>>,
     count: u16,
     line: &SetupLine,
-) -> Result<u16, AllocError> {
+) -> Result<u16, AllocError>
+    requires { AtLine setup.now table.old.items count line.now }
+    ensures { IfOk result (λ n. (left : List SetupLine) → Progress setup.now table.old.items count (line.now ∷ left) → Progress setup.now table.new.items n left) }
+{
     match line {
         SetupLine::Act { act, .. } => {
             declare(alloc, table, *act)?;
@@ -80,7 +88,10 @@ fn read(
 }
 
 /// The contexts of the setup's activities at opening, by their numbers.
-pub fn contexts(alloc: Global, setup: &Setup) -> Result<Vec<Option<Context>>, AllocError> {
+pub fn contexts(alloc: Global, setup: &Setup) -> Result<Vec<Option<Context>>, AllocError>
+    ensures contexts { IfOk result (λ t. HasContexts t.items (opening setup.now.memory setup.now.lines).contexts) }
+    ensures low { IfOk result (λ t. (a : ℕ) (c : Context) → slice_index_or t.items a None ≡ Some c → HasLow 0 c) }
+{
     let mut table = no_contexts(alloc)?;
     let mut count = 0;
     for line in setup.lines() {
@@ -89,7 +100,9 @@ pub fn contexts(alloc: Global, setup: &Setup) -> Result<Vec<Option<Context>>, Al
     Ok(table)
 }
 
-fn no_tiles(alloc: Global) -> Result<Vec<TilePart>, AllocError> {
+fn no_tiles(alloc: Global) -> Result<Vec<TilePart>, AllocError>
+    ensures { IfOk result (λ v. (length v.items ≡ 16) × AreLow 0 v.items) }
+{
     let mut tiles = Vec::new(alloc);
     for number in 0..16u8 {
         tiles.push(TilePart::new(alloc, TileId::new(number)))?;
@@ -98,7 +111,15 @@ fn no_tiles(alloc: Global) -> Result<Vec<TilePart>, AllocError> {
 }
 
 /// The tiles, each with the activities at home there and the context of the first.
-pub fn seated(alloc: Global, site: &Site, table: &mut Vec<Option<Context>>) -> Result<Vec<TilePart>, AllocError> {
+pub fn seated(
+    alloc: Global,
+    site: &Site,
+    table: &mut Vec<Option<Context>>,
+) -> Result<Vec<TilePart>, AllocError>
+    requires count { length table.old.items ≡ 64 }
+    requires low { (a : ℕ) (c : Context) → slice_index_or table.old.items a None ≡ Some c → HasLow 0 c }
+    ensures { IfOk result (λ v. (length v.items ≡ 16) × AreLow 0 v.items) }
+{
     let mut tiles = no_tiles(alloc)?;
     for home in site.homes() {
         let context = table[usize::from(home.act().number())].take();

@@ -1,6 +1,6 @@
 //! A tile's part: its current activity, whose commands it issues and whose packets it takes.
 
-ghost use Rattle.std.specs.Prelude.{◌≡◌, ◌∷◌, [], IfOk, OnErr, IsSome, None, Some, option_copied};
+ghost use Rattle.std.specs.Prelude.{◌≡◌, ◌∷◌, [], IfOk, OnOk, OnErr, IsSome, None, Some, option_copied};
 ghost use Rattle.m3_core.specs.Conditions.{IsBufferFor};
 ghost use Rattle.m3_base.specs.Places.{target, is_here};
 ghost use Rattle.m3_machine.specs.Parts.{closed_out};
@@ -8,7 +8,7 @@ ghost use Rattle.m3_machine.specs.Tile.{tile_do, new_out, act_in, arrive_named, 
 ghost use Rattle.m3_machine.specs.Telling.{said_issued, packet_issued, plain, credit_of, said_credit, said_came, out_came, NamesCredit, Lands, Does};
 ghost use Rattle.m3_machine.specs.Parcels.{parcel_of, out_of};
 ghost use Rattle.m3_machine.specs.Machine.{empty_tile};
-ghost use Rattle.m3_machine.specs.TileView.{CanIssue, aim_at};
+ghost use Rattle.m3_machine.specs.TileView.{CanIssue, aim_at, seated_with};
 
 use crate::aims::aim;
 use crate::shown::{Shown, fetched, front};
@@ -220,7 +220,10 @@ impl TilePart {
     }
 
     /// One more activity has its home here. It runs, with this context, where it is the first.
-    pub fn seat(&mut self, act: ActId, context: Option<Context>) -> Result<(), AllocError> {
+    pub fn seat(&mut self, act: ActId, context: Option<Context>) -> Result<(), AllocError>
+        ensures ok { OnOk result (self.new ≡ seated_with act context self.old) }
+        ensures err { OnErr result (self.new ≡ self.old) }
+    {
         self.acts.push(act)?;
         if self.current.is_none() {
             self.current = context;
