@@ -1,6 +1,6 @@
 //! The machine: its step and its journal.
 
-ghost use Rattle.std.specs.Prelude.{◌≡◌, ◌≢◌, ◌↔◌, ◌<◌, ◌≤◌, ◌++◌, ◌∷◌, [], true, length, OnOk, OnErr, IfErr, Err, vec_len, vec_capacity};
+ghost use Rattle.std.specs.Prelude.{◌≡◌, ◌≢◌, ◌↔◌, ◌<◌, ◌≤◌, ◌++◌, ◌∷◌, [], true, length, OnOk, OnErr, IfOk, IfErr, Err, vec_len, vec_capacity};
 ghost use Rattle.m3_base.specs.declared.event.Event.{Event};
 ghost use Rattle.m3_machine.specs.declared.machine.StepRefusal.{StepRefusal};
 ghost use Rattle.m3_machine.specs.Links.{place, lists_in, pushed, HasRoom};
@@ -97,7 +97,10 @@ fn add(entries: &mut Vec<Entry>, event: Event, outcome: Outcome)
 
 impl Machine {
     /// The machine that a setup describes, with no entry made. Each activity that is the first of its tile is there.
-    pub fn open(alloc: Global, setup: Setup) -> Result<Machine, AllocError> {
+    pub fn open(alloc: Global, setup: Setup) -> Result<Machine, AllocError>
+        ensures setup { IfOk result (λ m. m.setup ≡ setup) }
+        ensures entries { IfOk result (λ m. m.entries ≡ []) }
+    {
         let site = Site::new(alloc, setup.memory(), setup.lines())?;
         let mut table = contexts(alloc, &setup)?;
         let tiles = seated(alloc, &site, &mut table)?;
@@ -115,7 +118,10 @@ impl Machine {
     }
 
     /// The setup, and the entries made so far.
-    pub fn journal(&self) -> &Journal {
+    pub fn journal(&self) -> &Journal
+        ensures setup { result.now.setup ≡ self.now.setup }
+        ensures entries { result.now.entries.items ≡ self.now.entries }
+    {
         &self.journal
     }
 
