@@ -92,19 +92,19 @@ abbrev pub actor_seat : Site → Machine → Option Seat → Option Actor
 actor_seat h m None = None
 actor_seat h m (Some x) = actor_home m (home_of x.act h)
 
-placed_same : (w : Seating) → places.is_placed (standing w) ≡ is_placed_seat w
+pub placed_same : (w : Seating) → places.is_placed (standing w) ≡ is_placed_seat w
 placed_same Is_placed = refl
 placed_same Is_leaving = refl
 placed_same (Is_resting y) = refl
 placed_same (Is_coming y) = refl
 
-leaving_same : (w : Seating) → places.is_leaving (standing w) ≡ is_leaving_seat w
+pub leaving_same : (w : Seating) → places.is_leaving (standing w) ≡ is_leaving_seat w
 leaving_same Is_placed = refl
 leaving_same Is_leaving = refl
 leaving_same (Is_resting y) = refl
 leaving_same (Is_coming y) = refl
 
-coming_same : (w : Seating) → places.is_coming (standing w) ≡ is_coming_seat w
+pub coming_same : (w : Seating) → places.is_coming (standing w) ≡ is_coming_seat w
 coming_same Is_placed = refl
 coming_same Is_leaving = refl
 coming_same (Is_resting y) = refl
