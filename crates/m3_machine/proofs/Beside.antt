@@ -66,14 +66,15 @@ module _ (h : Site) (k : Kernel) (order : map seat_act k.seats ≡ map home_act 
   are_by fs (x ∷ xs) gs [] a b c d = absurd (cc)
   are_by fs (x ∷ xs) gs (y ∷ ys) a b c d =
       let s = same_head x xs y ys d in
-      let none = home_front gs y ys (subst HomesApart b apart) in
-      (record {
-        act = s.0;
-        seat = ap (keyed.find seat_act same_act y.act) a ∙ seat_here fs x xs y.act (seat_absent y.act fs gs c none) (sym s.0);
-        home = ap (home_in y.act) b ∙ home_here gs y ys none;
-      },
-      are_by (fs ++ x ∷ []) xs (gs ++ y ∷ []) ys (a ∙ sym (append_assoc fs (x ∷ []) xs)) (b ∙ sym (append_assoc gs (y ∷ []) ys))
-      (map-append seat_act fs (x ∷ []) ∙ (λ i. c i ++ s.0 i ∷ []) ∙ sym (map-append home_act gs (y ∷ []))) s.1)
+      let none = home_front gs y ys (subst HomesApart b apart) in (
+        record {
+          act = s.0;
+          seat = ap (keyed.find seat_act same_act y.act) a ∙ seat_here fs x xs y.act (seat_absent y.act fs gs c none) (sym s.0);
+          home = ap (home_in y.act) b ∙ home_here gs y ys none;
+        },
+        are_by (fs ++ x ∷ []) xs (gs ++ y ∷ []) ys (a ∙ sym (append_assoc fs (x ∷ []) xs)) (b ∙ sym (append_assoc gs (y ∷ []) ys))
+            (map-append seat_act fs (x ∷ []) ∙ (λ i. c i ++ s.0 i ∷ []) ∙ sym (map-append home_act gs (y ∷ []))) s.1,
+      )
 
   pub are_seats : AreSeats h k k.seats h.homes
   are_seats = are_by [] k.seats [] h.homes refl refl refl order

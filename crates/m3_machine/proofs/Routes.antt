@@ -291,7 +291,8 @@ module _ (h : Site) (m : Machine) (sound : IsSound h m) (p : Packet) (a : ℕ) (
   -- the kernel's rule is the places' rule
   pub route_is : (d : Routed) × (route h p m.kernel ≡ Some d) × Routes (routed_by d) d.held
   route_is =
-      let b = is_placed_seat r.seat.seating in
-      (rule b,
-      ap (λ o. route_to h p m.kernel (seat_for o m.kernel)) aim ∙ ap (route_to h p m.kernel) (ap (λ n. seat_of n m.kernel) (sym r.key) ∙ r.its.seat) ∙ ap (λ z. Some z) (rule_is b),
-      route_by b refl)
+      let b = is_placed_seat r.seat.seating in (
+        rule b,
+        ap (λ o. route_to h p m.kernel (seat_for o m.kernel)) aim ∙ ap (route_to h p m.kernel) (ap (λ n. seat_of n m.kernel) (sym r.key) ∙ r.its.seat) ∙ ap (λ z. Some z) (rule_is b),
+        route_by b refl,
+      )
