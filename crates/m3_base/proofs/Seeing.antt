@@ -1,33 +1,17 @@
 -- What a command is told at once is what its entry prints.
-use Rattle.std.proofs.Common.{◌≡◌, ◌≢◌, ℕ, zero, suc, ◌+◌, ◌<◌, Bool, true, false, List, [], ◌∷◌, ◌++◌, length, Some, None, refl, sym, ◌∙◌, ap, subst, arith, append_assoc, inl, inr}
-use Rattle.std.specs.Prelude.{Option, ◌==◌, ◌⊎◌, not, if◌then◌else◌, nat_lt, nat_le, is_some, is_none, IsSomeAnd}
+use Rattle.std.proofs.Common.{◌≡◌, ℕ, Bool, true, false, List, [], ◌∷◌, length, Some, None, refl, ◌∙◌, ap, subst}
+use Rattle.std.specs.Prelude.{Option, ◌==◌, not, if◌then◌else◌}
 use Rattle.m3_base.specs.declared.ids.FlightId.{FlightId}
 use Rattle.m3_base.specs.declared.message.Message.{Message}
 use Rattle.m3_base.specs.declared.command.Command.{Command}
 use Rattle.m3_base.specs.declared.command.Refusal.{Refusal}
 use Rattle.m3_base.specs.declared.command.Reply.{Reply}
-use Rattle.m3_base.specs.declared.command.Answer.{Answer}
-use Rattle.m3_base.specs.declared.event.Said.{Said}
-use Rattle.m3_base.specs.declared.event.IdleWhy.{IdleWhy}
-use Rattle.m3_base.specs.declared.event.Event.{Event}
-use Rattle.m3_base.specs.declared.event.Made.{Made}
-use Rattle.m3_base.specs.declared.event.Outcome.{Outcome}
-use Rattle.m3_base.specs.declared.event.Entry.{Entry}
-use Rattle.m3_base.specs.declared.order.GrantLine.{GrantLine}
-use Rattle.m3_base.specs.declared.order.Order.{Order}
-use Rattle.m3_base.specs.declared.step.Step.{Step}
-use Rattle.m3_base.specs.Context.{Flying, Endpoint, Free, Sends, Receives, Reaches, ReceiveRecord, Context, endpoint}
+use Rattle.m3_base.specs.Context.{Endpoint, Free, Sends, Receives, Reaches, ReceiveRecord, Context, endpoint}
 use Rattle.m3_base.specs.State.{State, context_of}
 use Rattle.m3_base.specs.Receive.{fetched_at, unmarked}
 use Rattle.m3_base.specs.Issue.{Told, Gives, Flies, Issued, issue, is_busy, next_id, first_of, unless, unless_busy, send, send_refusal, reply, reply_refusal, reply_to, fetch, fetch_from, acknowledge, acknowledge_at, acknowledged, may_read, may_write, access_refusal, read, write}
-use Rattle.std.proofs.lemmas.List.{append-nil}
-use Rattle.m3_base.specs.Steps.{Word, Ran, Next, istep, irun, on_from, with_word, issue_in, issued_in, settle_in, answer_in, answered_in}
-use Rattle.m3_base.specs.Land.{answered, frees, flying_at}
-use Rattle.m3_base.specs.Flight.{flight}
-use Rattle.m3_base.specs.declared.packet.Packet.{Packet}
-use Rattle.m3_base.specs.Entries.{SaysBy, Shows, IsRun, command_steps, await_steps, turn_steps, landing_steps, close_steps, steps_of, next_state, ran_to, shown_told, shown_reply, shown_message}
-use Rattle.m3_base.specs.Messages.{state_after, final}
-use Rattle.m3_base.specs.Seen.{printed_at_issue, printed_fetch, printed_message, printed_reply, with_header, front_of, front_header, front_at, told_reply, given, given_by, given_word, printed_answer, printed_move, printed_by, printed, seen, steps_in, reply_of}
+use Rattle.m3_base.specs.Entries.{shown_told, shown_message}
+use Rattle.m3_base.specs.Seen.{printed_at_issue, printed_fetch, printed_message, printed_reply, with_header, front_of, front_header, front_at, told_reply}
 
 -- what a command that isn't a fetch or an acknowledgement may be told at once
 pub data IsRefusedOrFlies : Told → Type 0 where
