@@ -115,10 +115,11 @@ module _ (h : Site) (m : Machine) (sound : IsSound h m) (t : ℕ) (b : Seat) (y 
       let us = each away (keyed.replaced seat_act same_act placed m.kernel.seats) in
       let r = around_replaced seat_act same_act away b placed m.kernel.seats there in
       let leaves : Inserts w.context us ss =
-      record { front = r.front; back = r.back; without = r.there; whole = r.here ∙ ap (λ z. r.front ++ (away_in z ++ r.back)) comes } in
-      (ts ++ (us ++ L),
-      inserts_left ts w.context (us ++ L) (ss ++ L) (inserts_right L w.context us ss leaves),
-      inserts_left ts w.context (us ++ L) (us ++ N) (inserts_left us w.context L N (push_one contexts_in m.links (16 * 0 + tile_of h b.act) (Restore w.context w.heard) w.context in_links refl)))
+      record { front = r.front; back = r.back; without = r.there; whole = r.here ∙ ap (λ z. r.front ++ (away_in z ++ r.back)) comes } in (
+        ts ++ (us ++ L),
+        inserts_left ts w.context (us ++ L) (ss ++ L) (inserts_right L w.context us ss leaves),
+        inserts_left ts w.context (us ++ L) (us ++ N) (inserts_left us w.context L N (push_one contexts_in m.links (16 * 0 + tile_of h b.act) (Restore w.context w.heard) w.context in_links refl)),
+      )
 
   packets_same : all_packets restoring ≡ all_packets m
   packets_same =

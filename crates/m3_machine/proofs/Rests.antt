@@ -125,10 +125,11 @@ module _ (h : Site) (m : Machine) (from : ℕ) (hf : from < 16) (sound : IsSound
       let us = each away kernel_then.seats in
       let r = around_replaced seat_act same_act away its.seat resting m.kernel.seats there in
       let rest : Inserts c ss us =
-      record { front = r.front; back = r.back; without = r.here ∙ ap (λ l. r.front ++ (away_in l ++ r.back)) leaving; whole = r.there } in
-      (ts ++ (ss ++ left),
-      inserts_left ts c (ss ++ left) (ss ++ old) (inserts_left ss c left old (pop_one contexts_in m.links (16 * from + 0) (Saved c waiting ended) qs c in_links g refl)),
-      inserts_left ts c (ss ++ left) (us ++ left) (inserts_right left c ss us rest))
+      record { front = r.front; back = r.back; without = r.here ∙ ap (λ l. r.front ++ (away_in l ++ r.back)) leaving; whole = r.there } in (
+        ts ++ (ss ++ left),
+        inserts_left ts c (ss ++ left) (ss ++ old) (inserts_left ss c left old (pop_one contexts_in m.links (16 * from + 0) (Saved c waiting ended) qs c in_links g refl)),
+        inserts_left ts c (ss ++ left) (us ++ left) (inserts_right left c ss us rest),
+      )
 
   packets_same : all_packets rested ≡ all_packets m
   packets_same =
@@ -164,13 +165,16 @@ module _ (h : Site) (m : Machine) (from : ℕ) (hf : from < 16) (sound : IsSound
   elsewhere a b hb d (Saved n u v) o = o
   elsewhere a b hb d (Restore n hs) o = o
   elsewhere a b hb d (Closed n) o = o
-  elsewhere a b hb d (Yield n) o =
-      (o.0, o.1, seat_then m.kernel.seats its.seat resting there refl (λ n o. is_here_seat (keyed.find seat_act same_act n m.kernel.seats) ≡ true → is_here_seat o ≡ true) n (λ k q. q)
-      (λ k q. absurd (
-      let one' : tile_of h n ≡ from = ap (tile_of h) (k ∙ act_is) ∙ sym ok.2 in
-      let z : b ≡ 0 = o.0 in
-      let w : a ≡ tile_of h n = o.1 in
-      let same : (16 * from + 0 == 16 * a + b) ≡ true = grind (arith, nat_tests, one', z, w) in cc)) o.2)
+  elsewhere a b hb d (Yield n) o = (
+    o.0,
+    o.1,
+    seat_then m.kernel.seats its.seat resting there refl (λ n o. is_here_seat (keyed.find seat_act same_act n m.kernel.seats) ≡ true → is_here_seat o ≡ true) n (λ k q. q)
+        (λ k q. absurd (
+        let one' : tile_of h n ≡ from = ap (tile_of h) (k ∙ act_is) ∙ sym ok.2 in
+        let z : b ≡ 0 = o.0 in
+        let w : a ≡ tile_of h n = o.1 in
+        let same : (16 * from + 0 == 16 * a + b) ≡ true = grind (arith, nat_tests, one', z, w) in cc)) o.2,
+  )
 
   parcels' : (a b : ℕ) → a < 16 → b < 16 → Each (ParcelOk h kernel_then m.tiles a b) (link_at a b rested)
   parcels' a b ha hb =
@@ -298,12 +302,13 @@ module _ (h : Site) (m : Machine) (from : ℕ) (hf : from < 16) (sound : IsSound
       let tile = seat_tile h m its.seat its.home its.its in
       let who = its.its.act in
       let look : Places → ℕ → Option Actor = λ p u. if list_any (places.is_leaving_at u) p.actors then None else places.first_due u p.actors in
-      subst (Refined h m (Event.Take 0 from) None) (sym step)
-      (ap (λ l. places.take s (places_of h m) 0 from l) (link_is h m from hf sound (Saved c waiting ended) qs g)
-      ∙ ap (places.saved_in s q waiting ended) (find_actor m c.act h.homes its.home its.found)
-      ∙ ap (λ z. places.restored (Said.Saved its.home.act) s z (look z its.home.tile)) (sym rested_places)
-      ∙ (λ i. places.restored (Said.Saved (sym who i)) s (places_of h rested) (look (places_of h rested) (sym tile i)))
-      ∙ ap (places.restored said s (places_of h rested)) (next_same h rested rested_sound said t)
-      ∙ rs.places' s
-      ∙ (λ i. Some (record { said = said; restore = rs.restore; state = sym (rs.state ∙ both.0) i; places = places_of h n })),
-      rs.sound')
+      subst (Refined h m (Event.Take 0 from) None) (sym step) (
+        ap (λ l. places.take s (places_of h m) 0 from l) (link_is h m from hf sound (Saved c waiting ended) qs g)
+            ∙ ap (places.saved_in s q waiting ended) (find_actor m c.act h.homes its.home its.found)
+            ∙ ap (λ z. places.restored (Said.Saved its.home.act) s z (look z its.home.tile)) (sym rested_places)
+            ∙ (λ i. places.restored (Said.Saved (sym who i)) s (places_of h rested) (look (places_of h rested) (sym tile i)))
+            ∙ ap (places.restored said s (places_of h rested)) (next_same h rested rested_sound said t)
+            ∙ rs.places' s
+            ∙ (λ i. Some (record { said = said; restore = rs.restore; state = sym (rs.state ∙ both.0) i; places = places_of h n })),
+        rs.sound',
+      )
