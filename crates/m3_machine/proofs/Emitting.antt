@@ -97,7 +97,7 @@ module _ (h : Site) (t : ℕ) (low : 1 ≤ t) (ht : t < 16) where
         places = longer_places h m t u ht hu (Data q) sound.links ∙ ap (λ n. places.pushed t n (places.Data (name_of q)) (places_of h m)) to;
       }
 
-  under_close : (x : Grant) → is_open x.standing ≡ true → x.close_sent ≡ true → is_under_close x ≡ true
+  pub under_close : (x : Grant) → is_open x.standing ≡ true → x.close_sent ≡ true → is_under_close x ≡ true
   under_close x o e = grind (arith, o, e)
 
   pub emit_closed : (m : Machine) → IsSound h m → (o : Option ℕ) → ShutsIf (at m).grants o
