@@ -19,7 +19,7 @@ in_inserts g n xs ys h = ap (λ l. is_in l n) h.whole ∙ in_front g n h.front h
 
 -- ---- by places from 0
 
-closed_later : (xs ys : List ℕ) (g n : ℕ) (gs : List Grant) → ((k : ℕ) → is_in ys k ≡ (g == k) || is_in xs k) → g < n → closed_from n ys gs ≡ closed_from n xs gs
+pub closed_later : (xs ys : List ℕ) (g n : ℕ) (gs : List Grant) → ((k : ℕ) → is_in ys k ≡ (g == k) || is_in xs k) → g < n → closed_from n ys gs ≡ closed_from n xs gs
 closed_later xs ys g n [] e less = refl
 closed_later xs ys g n (x ∷ gs) e less =
     let other : is_in ys n ≡ is_in xs n = e n ∙ ap (λ b. b || is_in xs n) (let d : (g == n) ≡ false = grind (arith, nat_tests, less) in d) in
