@@ -83,14 +83,14 @@ done_place xs ys g n (suc i) (x ∷ gs) y e off' here' found =
     let rest = done_place xs ys g (n + 1) i gs y e off' (omega arith) found in
     λ k. closed_if (sym other k) x ∷ rest k
 
-get_other : (gs : List Grant) (i j : ℕ) (y : Grant) → (i == j) ≡ false → slice_get (set gs i y) j ≡ slice_get gs j
+pub get_other : (gs : List Grant) (i j : ℕ) (y : Grant) → (i == j) ≡ false → slice_get (set gs i y) j ≡ slice_get gs j
 get_other [] i j y e = refl
 get_other (x ∷ gs) zero zero y e = absurd (cc)
 get_other (x ∷ gs) zero (suc j) y e = refl
 get_other (x ∷ gs) (suc i) zero y e = refl
 get_other (x ∷ gs) (suc i) (suc j) y e = get_other gs i j y (grind (arith, nat_tests, e))
 
-each_set : (P : Grant → Type 0) (gs : List Grant) (i : ℕ) (x y : Grant) → slice_get gs i ≡ Some x → (P x → P y) → Each P gs → Each P (set gs i y)
+pub each_set : (P : Grant → Type 0) (gs : List Grant) (i : ℕ) (x y : Grant) → slice_get gs i ≡ Some x → (P x → P y) → Each P gs → Each P (set gs i y)
 each_set P [] i x y e f k = tt
 each_set P (z ∷ gs) zero x y e f k = let q : z ≡ x = cc in (f (subst P q k.0), k.1)
 each_set P (z ∷ gs) (suc i) x y e f k = (k.0, each_set P gs i x y e f k.1)
