@@ -55,7 +55,7 @@ closed_less (x ∷ f) g b h = ((in_parts x g f b h.0).1, closed_less f g b h.1)
 abbrev dones : Grant → Grant
 dones y = record y { standing = ideal.Done }
 
-get_closed : (ys : List ℕ) (n i : ℕ) (gs : List Grant) (y : Grant) → slice_get gs i ≡ Some y → slice_get (closed_from n ys gs) i ≡ Some (closed_if (is_in ys (n + i)) y)
+pub get_closed : (ys : List ℕ) (n i : ℕ) (gs : List Grant) (y : Grant) → slice_get gs i ≡ Some y → slice_get (closed_from n ys gs) i ≡ Some (closed_if (is_in ys (n + i)) y)
 get_closed ys n i [] y e = absurd (none y e)
   where
     none : (y : Grant) → None ≡ Some y → ⊥
