@@ -1,6 +1,6 @@
 -- Seats and homes stand side by side, so what the kernel looks for among seats the places look for among actors.
-use Rattle.std.proofs.Common.{◌≡◌, ◌≢◌, ℕ, zero, suc, ◌+◌, ◌*◌, ◌<◌, ◌≤◌, Bool, true, false, cond, List, [], ◌∷◌, ◌++◌, Some, None, refl, sym, subst, ◌∙◌, ap, arith, append_assoc, append-nil, length, map, Option, ◌⊎◌, inl, inr}
-use Rattle.std.specs.Prelude.{if◌then◌else◌, ◌==◌, not, ◌&&◌, ◌||◌, is_some}
+use Rattle.std.proofs.Common.{◌≡◌, ℕ, suc, ◌≤◌, Bool, true, false, cond, List, [], ◌∷◌, ◌++◌, Some, None, refl, sym, subst, ◌∙◌, ap, arith, append_assoc, length, map, Option}
+use Rattle.std.specs.Prelude.{◌==◌, ◌&&◌, ◌||◌}
 use Rattle.std.specs.List.{list_any}
 use Rattle.std.proofs.lemmas.Bool.Decides.{nat_tests}
 use Rattle.std.proofs.lemmas.List.{map-append}
@@ -11,14 +11,12 @@ use Rattle.m3_base.specs.State.{same_act}
 use Rattle.m3_base.specs.Flight.{name_of}
 use Rattle.m3_base.specs.Places as places
 use Rattle.m3_base.specs.Places.{Actor, actor_act, same_actor}
-use Rattle.m3_merge.specs.Parts.{Each}
-use Rattle.m3_machine.specs.Parts.{Home, Site, home_act, home_of, tile_of, tile_in, Stay, Tile, Seating, Is_placed, Is_leaving, Is_resting, Is_coming, Seat, Kernel}
-use Rattle.m3_machine.specs.Naming.{is_home}
+use Rattle.m3_machine.specs.Parts.{Home, Site, home_act, home_of, tile_of, tile_in, Seating, Is_placed, Is_leaving, Is_resting, Is_coming, Seat, Kernel}
 use Rattle.m3_machine.specs.Tile.{stay_of}
 use Rattle.m3_machine.specs.Kernel.{seat_act, seat_of, placed_at, is_placed_seat, is_leaving_seat, is_coming_seat, is_leaving_at, is_moving_at, is_due_seat, first_due}
 use Rattle.m3_machine.specs.Machine.{Machine, tile_at}
-use Rattle.m3_machine.specs.At.{actor_in, actor_by, standing, places_of}
-use Rattle.m3_machine.specs.Sound.{HomesApart, IsThere, act_of_seat, placed_on, is_placed_at}
+use Rattle.m3_machine.specs.At.{actor_in, actor_by, standing}
+use Rattle.m3_machine.specs.Sound.{HomesApart, is_placed_at}
 use Rattle.m3_machine.proofs.Lines.{home_in}
 
 -- ---- side by side

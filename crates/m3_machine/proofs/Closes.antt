@@ -1,35 +1,32 @@
 -- The kernel sends the Close of a grant that is due.
-use Rattle.std.proofs.Common.{◌≡◌, ◌≢◌, ℕ, zero, suc, ◌+◌, ◌-◌, ◌*◌, ◌<◌, ◌≤◌, Bool, true, false, cond, List, [], ◌∷◌, ◌++◌, Some, None, refl, sym, subst, ◌∙◌, ap, arith, set, get_or, length, map, Option, ◌⊎◌, inl, inr}
-use Rattle.std.specs.Prelude.{if◌then◌else◌, ◌==◌, not, ◌&&◌, ◌||◌, is_some, slice_get}
+use Rattle.std.proofs.Common.{◌≡◌, ℕ, zero, suc, ◌+◌, ◌-◌, Bool, true, false, cond, List, [], ◌∷◌, Some, None, refl, sym, subst, ◌∙◌, ap, arith, set, Option}
+use Rattle.std.specs.Prelude.{if◌then◌else◌, ◌==◌, not, ◌&&◌, ◌||◌, slice_get}
 use Rattle.std.specs.List.{list_any}
 use Rattle.std.proofs.lemmas.Bool.Decides.{nat_tests}
-use Rattle.m3_base.specs.declared.ids.FlightId.{FlightId}
 use Rattle.m3_base.specs.declared.packet.Packet.{Packet}
 use Rattle.m3_base.specs.declared.event.Event.{Event}
 use Rattle.m3_base.specs.declared.event.Made.{Made}
-use Rattle.m3_base.specs.declared.event.IdleWhy.{IdleWhy}
 use Rattle.m3_base.specs.declared.event.Said.{Said}
 use Rattle.m3_base.specs.declared.step.Step.{Step}
-use Rattle.m3_base.specs.Flight.{kernel, name_of, flight, new_flight}
-use Rattle.m3_base.specs.State.{Grant, State, context_of, grant_in, holder, holder_ep, is_done, is_child}
+use Rattle.m3_base.specs.Flight.{flight, new_flight}
+use Rattle.m3_base.specs.State.{Grant, State, grant_in, holder, holder_ep, is_done, is_child}
 use Rattle.m3_base.specs.Grants.{change_grant, set_some, may_close, is_open_child, is_closing_grant, close_sent}
-use Rattle.m3_base.specs.Grants as orders
-use Rattle.m3_base.specs.Steps.{Word, Sends_close, Ran, irun, on_from, send_close_in, then_say}
-use Rattle.m3_base.specs.Entries.{said_of, ran_to}
+use Rattle.m3_base.specs.Steps.{Sends_close, irun, on_from, send_close_in, then_say}
+use Rattle.m3_base.specs.Entries.{ran_to}
 use Rattle.m3_base.specs.Places as places
 use Rattle.m3_base.specs.Places.{pstep, target, target_of, least_closing, said_or_nothing}
 use Rattle.m3_base.proofs.Sorting.{find-new}
 use Rattle.m3_merge.specs.Parts.{Each}
 use Rattle.m3_merge.proofs.Merged.{each_map}
-use Rattle.m3_machine.specs.Parts.{Site, Parcel, Kernel, is_idle}
+use Rattle.m3_machine.specs.Parts.{Site}
 use Rattle.m3_machine.specs.Naming.{is_home, is_named}
-use Rattle.m3_machine.specs.Kernel.{is_under_close, route, Routed, sends_own, kernel_id, close_of, close_least, kernel_close}
-use Rattle.m3_machine.specs.Machine.{Machine, link_at, pushed_all, mstep, done_by, of_kernel}
+use Rattle.m3_machine.specs.Kernel.{is_under_close, route, Routed, sends_own, kernel_id, close_of, close_least}
+use Rattle.m3_machine.specs.Machine.{Machine, link_at, mstep, done_by, of_kernel}
 use Rattle.m3_machine.specs.At.{all_packets, all_closed, is_in, closed_if, closed_from, at, places_of}
-use Rattle.m3_machine.specs.Sound.{IsShut, ParcelOk, Hypotheses, IsHoused, IsSeated, IsSound}
+use Rattle.m3_machine.specs.Sound.{IsShut, ParcelOk, Hypotheses, IsSound}
 use Rattle.m3_machine.specs.Refines.{Refined}
 use Rattle.m3_machine.proofs.Reseats.{parcel_kernel}
-use Rattle.m3_machine.proofs.Closings.{numbered, numbered_back}
+use Rattle.m3_machine.proofs.Closings.{numbered_back}
 use Rattle.m3_machine.proofs.Doing.{absent_back}
 use Rattle.m3_machine.proofs.Routes.{Resident, resident, Routes, route_is, routed_by}
 use Rattle.m3_machine.proofs.Dones.{get_other, each_set}

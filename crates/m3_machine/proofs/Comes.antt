@@ -1,6 +1,6 @@
 -- The kernel sends Restore for the activity that comes, where nobody leaves its tile and nothing is held for it.
-use Rattle.std.proofs.Common.{◌≡◌, ◌≢◌, ℕ, zero, suc, ◌+◌, ◌*◌, ◌<◌, ◌≤◌, Bool, true, false, cond, List, [], ◌∷◌, ◌++◌, Some, None, refl, sym, subst, ◌∙◌, ap, arith, append_assoc, append-nil, set, get_or, length, map, Option, ◌⊎◌, inl, inr}
-use Rattle.std.specs.Prelude.{if◌then◌else◌, ◌==◌, not, ◌&&◌, ◌||◌, is_some}
+use Rattle.std.proofs.Common.{◌≡◌, ℕ, ◌+◌, ◌*◌, ◌<◌, ◌≤◌, Bool, true, false, cond, List, [], ◌∷◌, ◌++◌, Some, None, refl, sym, subst, ◌∙◌, ap, arith, append-nil, set, get_or, length, map, Option}
+use Rattle.std.specs.Prelude.{if◌then◌else◌, ◌==◌, ◌&&◌, is_some}
 use Rattle.std.specs.List.{list_any}
 use Rattle.std.proofs.lemmas.Bool.Decides.{nat_tests}
 use Rattle.m3_base.specs.declared.packet.Packet.{Packet}
@@ -8,18 +8,18 @@ use Rattle.m3_base.specs.declared.event.Said.{Said}
 use Rattle.m3_base.specs.Keyed as keyed
 use Rattle.m3_base.specs.Sums.{one, how_many}
 use Rattle.m3_base.specs.Context.{Context}
-use Rattle.m3_base.specs.State.{State, context_of, same_act}
+use Rattle.m3_base.specs.State.{State, same_act}
 use Rattle.m3_base.specs.Places as places
 use Rattle.m3_base.specs.Places.{Places, Actor}
 use Rattle.m3_merge.specs.Parts.{Each}
 use Rattle.m3_merge.proofs.Merged.{each_map}
-use Rattle.m3_machine.specs.Parts.{Home, Site, home_of, tile_of, Parcel, Restore, Heard, Away, Seating, Is_placed, Is_leaving, Is_resting, Is_coming, Seat, Kernel, Deed}
+use Rattle.m3_machine.specs.Parts.{Home, Site, tile_of, Parcel, Restore, Away, Seating, Is_placed, Is_leaving, Is_resting, Is_coming, Seat, Kernel}
 use Rattle.m3_machine.specs.Naming.{is_home, is_named_context}
 use Rattle.m3_machine.specs.Tile.{stay_of}
-use Rattle.m3_machine.specs.Kernel.{seat_act, seat_of, seated, with_yielded, is_placed_seat, is_leaving_seat, is_coming_seat, is_leaving_at, is_due_seat, first_due, restored, restored_by, then_restore}
+use Rattle.m3_machine.specs.Kernel.{seat_act, seat_of, seated, with_yielded, is_placed_seat, is_leaving_seat, is_coming_seat, is_leaving_at, is_due_seat, first_due, restored, restored_by}
 use Rattle.m3_machine.specs.Machine.{Machine, tile_at, link_at, pushed, pushed_all}
-use Rattle.m3_machine.specs.At.{each, on_links, here, away, away_in, held_by, contexts_in, packets_in, closed_in, all_contexts, all_packets, all_closed, is_in, at, token, actor_in, actor_by, current_act, places_of}
-use Rattle.m3_machine.specs.Sound.{ActsApart, NamesApart, ClosedApart, IsThere, has_home, act_of_seat, placed_on, is_placed_at, is_coming_at, is_leaving_of, is_here_seat, ParcelOk, SeatOk, HeldOk, Walks, of_act, leavings, IsHoused, IsSeated, IsSound}
+use Rattle.m3_machine.specs.At.{each, on_links, here, away, away_in, held_by, contexts_in, packets_in, closed_in, all_contexts, all_packets, all_closed, is_in, at, actor_in, actor_by, current_act, places_of}
+use Rattle.m3_machine.specs.Sound.{NamesApart, ClosedApart, has_home, act_of_seat, placed_on, is_placed_at, is_coming_at, is_leaving_of, is_here_seat, ParcelOk, SeatOk, HeldOk, Walks, leavings, IsSound}
 use Rattle.m3_machine.proofs.Inserts.{Inserts, inserts_left, inserts_right, push_none, push_one}
 use Rattle.m3_machine.proofs.Replaces.{around_replaced}
 use Rattle.m3_machine.proofs.Switching.{restore_out_at}

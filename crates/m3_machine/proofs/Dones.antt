@@ -1,29 +1,27 @@
 -- The kernel takes the Closed of a grant: the grant is done.
-use Rattle.std.proofs.Common.{◌≡◌, ◌≢◌, ℕ, zero, suc, ◌+◌, ◌-◌, ◌*◌, ◌<◌, ◌≤◌, Bool, true, false, cond, List, [], ◌∷◌, ◌++◌, Some, None, refl, sym, subst, ◌∙◌, ap, arith, set, get_or, length, map, Option, ◌⊎◌, inl, inr}
-use Rattle.std.specs.Prelude.{if◌then◌else◌, ◌==◌, not, ◌&&◌, ◌||◌, is_some, slice_get}
+use Rattle.std.proofs.Common.{◌≡◌, ℕ, zero, suc, ◌+◌, ◌-◌, ◌*◌, ◌<◌, ◌≤◌, Bool, true, false, cond, List, [], ◌∷◌, ◌++◌, Some, None, refl, sym, subst, ◌∙◌, ap, arith, set, length, map, Option}
+use Rattle.std.specs.Prelude.{if◌then◌else◌, ◌==◌, ◌||◌, slice_get}
 use Rattle.std.proofs.lemmas.Bool.Decides.{nat_tests}
 use Rattle.std.proofs.lemmas.List.{map-set}
-use Rattle.m3_base.specs.declared.packet.Packet.{Packet}
 use Rattle.m3_base.specs.declared.event.Event.{Event}
 use Rattle.m3_base.specs.declared.event.Said.{Said}
 use Rattle.m3_base.specs.declared.step.Step.{Step}
-use Rattle.m3_base.specs.Sums.{one, how_many}
 use Rattle.m3_base.specs.State.{Grant, State, context_of, grant_in, holder, is_done}
 use Rattle.m3_base.specs.State as ideal
-use Rattle.m3_base.specs.Grants.{change_grant, set_some, is_closed_grant}
-use Rattle.m3_base.specs.Steps.{Word, Is_done, Ran, irun, on_from, done_in, then_say}
+use Rattle.m3_base.specs.Grants.{change_grant, set_some}
+use Rattle.m3_base.specs.Steps.{Is_done, irun, on_from, done_in}
 use Rattle.m3_base.specs.Entries.{said_of}
 use Rattle.m3_base.specs.Places as places
 use Rattle.m3_base.specs.Places.{pstep, said_or_nothing}
 use Rattle.m3_merge.specs.Parts.{Each}
 use Rattle.m3_merge.proofs.Merged.{each_map}
 use Rattle.m3_machine.proofs.Reseats.{parcel_kernel}
-use Rattle.m3_machine.specs.Parts.{Site, Parcel, Closed, Kernel, dropped}
+use Rattle.m3_machine.specs.Parts.{Site, Parcel, Closed, dropped}
 use Rattle.m3_machine.specs.Naming.{is_home, is_named_context}
 use Rattle.m3_machine.specs.Kernel.{is_under_close, done_grant, take_closed}
-use Rattle.m3_machine.specs.Machine.{Machine, Is_kernel, tile_at, link_at, with_link, with_part, mstep, done_by, of_kernel}
-use Rattle.m3_machine.specs.At.{each, on_links, here, away, held_by, contexts_in, packets_in, closed_in, all_contexts, all_packets, all_closed, is_in, by_act, by_name, closed_if, closed_from, at, token, current_act, places_of}
-use Rattle.m3_machine.specs.Sound.{ActsApart, NamesApart, ClosedApart, IsThere, IsShut, ParcelOk, Walks, placed_on, of_act, leavings, IsHoused, IsSeated, IsSound}
+use Rattle.m3_machine.specs.Machine.{Machine, tile_at, link_at, with_link, mstep, done_by, of_kernel}
+use Rattle.m3_machine.specs.At.{each, here, away, held_by, contexts_in, packets_in, closed_in, all_contexts, all_packets, all_closed, is_in, by_act, by_name, closed_if, closed_from, at, token, current_act, places_of}
+use Rattle.m3_machine.specs.Sound.{ActsApart, NamesApart, ClosedApart, IsThere, IsShut, ParcelOk, Walks, placed_on, leavings, IsSound}
 use Rattle.m3_machine.specs.Refines.{Refined}
 use Rattle.m3_machine.proofs.Inserts.{Inserts, pop_none, pop_one}
 use Rattle.m3_machine.proofs.Saving.{tokens}

@@ -1,22 +1,18 @@
 -- A seat of the kernel in place of another of its activity.
-use Rattle.std.proofs.Common.{◌≡◌, ◌≢◌, ℕ, zero, suc, ◌+◌, ◌*◌, ◌<◌, ◌≤◌, Bool, true, false, cond, List, [], ◌∷◌, ◌++◌, Some, None, refl, sym, subst, ◌∙◌, ap, arith, append_assoc, append-nil, length, map, Option, ◌⊎◌, inl, inr}
-use Rattle.std.specs.Prelude.{if◌then◌else◌, ◌==◌, not, ◌&&◌, ◌||◌, is_some}
-use Rattle.std.specs.List.{list_any}
+use Rattle.std.proofs.Common.{◌≡◌, ℕ, ◌+◌, Bool, true, false, cond, List, [], ◌∷◌, Some, refl, sym, subst, ◌∙◌, ap, arith, map, Option}
+use Rattle.std.specs.Prelude.{◌==◌}
 use Rattle.std.proofs.lemmas.Bool.Decides.{nat_tests}
 use Rattle.m3_base.specs.Keyed as keyed
 use Rattle.m3_base.specs.Sums.{one, how_many}
 use Rattle.m3_base.specs.State.{same_act}
-use Rattle.m3_base.specs.Places as places
 use Rattle.m3_base.specs.Places.{Actor, actor_act, same_actor}
 use Rattle.m3_base.proofs.Keyed.{find-replaced_other, find-replaced_same, how_many-replaced}
-use Rattle.m3_machine.specs.Parts.{Home, Site, home_of, tile_of, Parcel, Data, Save, Saved, Restore, Yield, Closed, Stay, Tile, Seat, Kernel}
-use Rattle.m3_machine.specs.Tile.{stay_of}
+use Rattle.m3_machine.specs.Parts.{Home, Site, home_of, Parcel, Data, Save, Saved, Restore, Yield, Closed, Tile, Seat, Kernel}
 use Rattle.m3_machine.specs.Kernel.{seat_act, seat_of, placed_at}
-use Rattle.m3_machine.specs.Machine.{Machine, tile_at}
-use Rattle.m3_machine.specs.At.{actor_in, actor_by}
-use Rattle.m3_machine.specs.Sound.{HomesApart, act_of_seat, placed_on, is_placed_at, is_here_seat, ParcelOk}
+use Rattle.m3_machine.specs.Machine.{Machine}
+use Rattle.m3_machine.specs.At.{actor_in}
+use Rattle.m3_machine.specs.Sound.{HomesApart, act_of_seat, is_placed_at, is_here_seat, ParcelOk}
 use Rattle.m3_machine.proofs.Beside.{actors_replaced}
-use Rattle.m3_machine.proofs.Lines.{home_in}
 
 joins : (a b c : ℕ) → same_act a c ≡ true → same_act b c ≡ true → same_act a b ≡ true
 joins a b c p q = grind (arith, nat_tests)

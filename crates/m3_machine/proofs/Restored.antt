@@ -1,15 +1,12 @@
 -- A tile takes Restore: the whole event.
-use Rattle.std.proofs.Common.{◌≡◌, ◌≢◌, ℕ, zero, suc, ◌+◌, ◌*◌, ◌<◌, ◌≤◌, Bool, true, false, cond, List, [], ◌∷◌, ◌++◌, Some, None, refl, sym, subst, ◌∙◌, ap, arith, append_assoc, set, get_or, length, map, Option, ◌⊎◌, inl, inr}
-use Rattle.std.specs.Prelude.{if◌then◌else◌, ◌==◌, not, ◌&&◌, ◌||◌, is_some}
+use Rattle.std.proofs.Common.{◌≡◌, ℕ, ◌+◌, ◌*◌, ◌<◌, ◌≤◌, Bool, true, false, cond, List, [], ◌∷◌, ◌++◌, Some, None, refl, sym, subst, ◌∙◌, ap, arith, set, get_or, length, map, Option}
+use Rattle.std.specs.Prelude.{◌==◌, ◌&&◌}
 use Rattle.std.proofs.lemmas.Bool.Decides.{nat_tests}
 use Rattle.std.proofs.lemmas.List.{map-set, get_or-map}
-use Rattle.m3_base.specs.declared.packet.Packet.{Packet}
 use Rattle.m3_base.specs.declared.event.Event.{Event}
 use Rattle.m3_base.specs.declared.event.Said.{Said}
-use Rattle.m3_base.specs.Keyed as keyed
-use Rattle.m3_base.specs.Sums.{one, how_many}
 use Rattle.m3_base.specs.Context.{Context}
-use Rattle.m3_base.specs.State.{context_of, same_act}
+use Rattle.m3_base.specs.State.{same_act}
 use Rattle.m3_base.specs.Places as places
 use Rattle.m3_base.specs.Places.{Places, Actor, pstep}
 use Rattle.m3_base.proofs.Keyed.{find-replaced_other, find-replaced_same}
@@ -17,12 +14,12 @@ use Rattle.m3_merge.specs.Parts.{Each}
 use Rattle.m3_merge.proofs.Merged.{each_map}
 use Rattle.m3_merge.proofs.Stamps.{each_back}
 use Rattle.m3_machine.specs.Parts.{Site, Home, Kernel, home_of, tile_of, tile_in, Heard, Parcel, Data, Save, Saved, Restore, Yield, Closed, Stay, Tile, Seating, Is_placed, Is_leaving, Is_resting, Is_coming, Seat, dropped}
-use Rattle.m3_machine.specs.Naming.{is_home, is_named_context, has_low_numbers}
-use Rattle.m3_machine.specs.Tile.{act_in, stay_act, stay_of, with_stay, with_current, begun, take_restore, restored}
+use Rattle.m3_machine.specs.Naming.{is_named_context, has_low_numbers}
+use Rattle.m3_machine.specs.Tile.{stay_act, stay_of, with_stay, with_current, begun, take_restore, restored}
 use Rattle.m3_machine.specs.Kernel.{seat_of}
 use Rattle.m3_machine.specs.Machine.{Machine, Is_tile, empty_tile, tile_at, link_at, with_link, with_part, mstep, done_by, of_tile}
 use Rattle.m3_machine.specs.At.{each, on_links, as_list, here, away, contexts_in, packets_in, closed_in, held_by, all_contexts, all_packets, all_closed, is_in, at, token, actor_in, actor_by, current_act, places_of}
-use Rattle.m3_machine.specs.Sound.{ActsApart, NamesApart, ClosedApart, IsThere, LivesAt, Walks, placed_on, stay_at, EndedAs, ParcelOk, SeatOk, HeldOk, of_act, leavings, IsHoused, IsSeated, IsSound}
+use Rattle.m3_machine.specs.Sound.{NamesApart, ClosedApart, IsThere, LivesAt, Walks, placed_on, stay_at, EndedAs, ParcelOk, SeatOk, leavings, IsSound}
 use Rattle.m3_machine.specs.Refines.{Refined}
 use Rattle.m3_machine.proofs.Inserts.{Inserts, inserts_left, inserts_right, around_set, fills, pop_none, pop_one}
 use Rattle.m3_machine.proofs.Moved.{length-set}

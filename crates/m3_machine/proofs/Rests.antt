@@ -1,35 +1,34 @@
 -- The kernel takes Saved: the activity rests, and the one that comes may come.
-use Rattle.std.proofs.Common.{◌≡◌, ◌≢◌, ℕ, zero, suc, ◌+◌, ◌*◌, ◌<◌, ◌≤◌, Bool, true, false, cond, List, [], ◌∷◌, ◌++◌, Some, None, refl, sym, subst, ◌∙◌, ap, arith, append_assoc, append-nil, set, get_or, length, map, Option, ◌⊎◌, inl, inr}
-use Rattle.std.specs.Prelude.{if◌then◌else◌, ◌==◌, not, ◌&&◌, ◌||◌, is_some}
+use Rattle.std.proofs.Common.{◌≡◌, ℕ, ◌+◌, ◌*◌, ◌<◌, ◌≤◌, Bool, true, false, cond, List, [], ◌∷◌, ◌++◌, Some, None, refl, sym, subst, ◌∙◌, ap, arith, set, get_or, length, map, Option}
+use Rattle.std.specs.Prelude.{if◌then◌else◌, ◌==◌, not, ◌&&◌}
 use Rattle.std.specs.List.{list_any}
 use Rattle.std.proofs.lemmas.Bool.Decides.{nat_tests}
 use Rattle.std.proofs.lemmas.List.{map-set}
-use Rattle.m3_base.specs.declared.packet.Packet.{Packet}
 use Rattle.m3_base.specs.declared.event.Event.{Event}
 use Rattle.m3_base.specs.declared.event.Said.{Said}
 use Rattle.m3_base.specs.Keyed as keyed
 use Rattle.m3_base.specs.Sums.{one, how_many}
 use Rattle.m3_base.specs.Context.{Context}
-use Rattle.m3_base.specs.State.{State, context_of, same_act}
+use Rattle.m3_base.specs.State.{same_act}
 use Rattle.m3_base.specs.Places as places
 use Rattle.m3_base.specs.Places.{Places, Actor, pstep, joins}
 use Rattle.m3_merge.specs.Parts.{Each}
 use Rattle.m3_merge.proofs.Merged.{each_map}
-use Rattle.m3_machine.specs.Parts.{Home, Site, home_of, tile_of, has_program, programmed, Parcel, Data, Save, Saved, Restore, Yield, Closed, Tile, Seating, Is_placed, Is_leaving, Is_resting, Is_coming, Seat, Kernel, Deed, dropped}
-use Rattle.m3_machine.specs.Naming.{is_home, is_named_context}
+use Rattle.m3_machine.specs.Parts.{Home, Site, home_of, tile_of, has_program, programmed, Parcel, Data, Save, Saved, Restore, Yield, Closed, Seating, Is_placed, Is_leaving, Is_resting, Is_coming, Seat, Kernel, Deed, dropped}
+use Rattle.m3_machine.specs.Naming.{is_named_context}
 use Rattle.m3_machine.specs.Tile.{stay_of}
-use Rattle.m3_machine.specs.Kernel.{seat_act, seat_of, seated, rests, join_ready, ready_at, is_placed_seat, is_leaving_seat, is_coming_seat, is_leaving_at, take_saved, then_restore, restored}
-use Rattle.m3_machine.specs.Machine.{Machine, Is_kernel, tile_at, link_at, with_link, with_part, pushed_all, mstep, done_by, of_kernel}
-use Rattle.m3_machine.specs.At.{each, on_links, here, away, away_in, held_by, contexts_in, packets_in, closed_in, all_contexts, all_packets, all_closed, is_in, by_act, by_name, closed_from, at, token, actor_in, actor_by, current_act, places_of}
-use Rattle.m3_machine.specs.Sound.{ActsApart, NamesApart, ClosedApart, IsThere, stay_at, EndedAs, act_of_seat, placed_on, is_placed_at, is_coming_at, is_leaving_of, is_here_seat, ParcelOk, SeatOk, HeldOk, Walks, Orderly, no_yield, of_act, leavings, IsHoused, IsSeated, IsSound}
+use Rattle.m3_machine.specs.Kernel.{seat_act, seat_of, seated, rests, join_ready, is_placed_seat, is_leaving_seat, is_coming_seat, is_leaving_at, take_saved, then_restore}
+use Rattle.m3_machine.specs.Machine.{Machine, tile_at, link_at, with_link, pushed_all, mstep, done_by, of_kernel}
+use Rattle.m3_machine.specs.At.{each, on_links, here, away, away_in, held_by, contexts_in, packets_in, closed_in, all_contexts, all_packets, all_closed, is_in, at, token, actor_in, actor_by, current_act, places_of}
+use Rattle.m3_machine.specs.Sound.{ActsApart, NamesApart, ClosedApart, stay_at, EndedAs, placed_on, is_placed_at, is_coming_at, is_leaving_of, is_here_seat, ParcelOk, SeatOk, HeldOk, Walks, Orderly, no_yield, leavings, IsSound}
 use Rattle.m3_machine.specs.Refines.{Refined}
 use Rattle.m3_machine.proofs.Inserts.{Inserts, inserts_left, inserts_right, pop_none, pop_one}
 use Rattle.m3_machine.proofs.Replaces.{around_replaced}
 use Rattle.m3_machine.proofs.Switching.{seats_at}
 use Rattle.m3_machine.proofs.Saving.{tokens, find_actor}
 use Rattle.m3_machine.proofs.Sets.{is_link, links_set, links_either}
-use Rattle.m3_machine.proofs.Linkwise.{pop_length, pop_front, pop_leavings, pop_orderly, moves_each, moves_known, moves_apart}
-use Rattle.m3_machine.proofs.Beside.{SeatOf, actor_seat, order_replaced, seat_tile}
+use Rattle.m3_machine.proofs.Linkwise.{pop_length, pop_front, pop_leavings, pop_orderly, moves_each, moves_known}
+use Rattle.m3_machine.proofs.Beside.{order_replaced, seat_tile}
 use Rattle.m3_machine.proofs.Reseats.{seat_then, seat_now, seat_counts, placed_still, actors_then}
 use Rattle.m3_machine.proofs.Routes.{Resident, resident}
 use Rattle.m3_machine.proofs.Takes.{kernel_step, link_is}

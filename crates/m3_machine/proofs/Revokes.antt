@@ -1,5 +1,5 @@
 -- The order of a revoke.
-use Rattle.std.proofs.Common.{◌≡◌, ◌≢◌, ℕ, zero, suc, ◌+◌, ◌-◌, ◌*◌, ◌<◌, ◌≤◌, Bool, true, false, cond, List, [], ◌∷◌, ◌++◌, Some, None, refl, sym, subst, ◌∙◌, ap, arith, set, get_or, length, map, Option, ◌⊎◌, inl, inr}
+use Rattle.std.proofs.Common.{◌≡◌, ℕ, zero, suc, ◌+◌, ◌-◌, Bool, true, false, cond, List, [], ◌∷◌, ◌++◌, Some, None, refl, sym, subst, ◌∙◌, ap, arith, set, Option}
 use Rattle.std.specs.Prelude.{if◌then◌else◌, ◌==◌, not, ◌&&◌, ◌||◌, is_some, slice_get}
 use Rattle.std.proofs.lemmas.Bool.Decides.{nat_tests}
 use Rattle.m3_base.specs.declared.order.Order.{Order}
@@ -7,9 +7,8 @@ use Rattle.m3_base.specs.declared.event.Event.{Event}
 use Rattle.m3_base.specs.declared.event.Made.{Made}
 use Rattle.m3_base.specs.declared.event.No.{No}
 use Rattle.m3_base.specs.declared.event.Said.{Said}
-use Rattle.m3_base.specs.declared.step.Step.{Step}
 use Rattle.m3_base.specs.State.{Grant, State, grant_in, holder, is_done, is_live, parent_of}
-use Rattle.m3_base.specs.Grants.{change_grant, set_some, revoke_refusal, marks_under, is_marked, to_closing, closing_where, rooted, revoked}
+use Rattle.m3_base.specs.Grants.{set_some, revoke_refusal, marks_under, is_marked, to_closing, closing_where, rooted, revoked}
 use Rattle.m3_base.specs.State as ideal
 use Rattle.m3_base.specs.Flight.{flight}
 use Rattle.m3_base.specs.Grants.{kernel_id as kernel_id'}
@@ -19,12 +18,12 @@ use Rattle.m3_base.specs.Places as places
 use Rattle.m3_base.specs.Places.{pstep}
 use Rattle.m3_merge.specs.Parts.{Each}
 use Rattle.m3_merge.proofs.Merged.{each_map}
-use Rattle.m3_machine.specs.Parts.{Site, Parcel, Kernel, says}
+use Rattle.m3_machine.specs.Parts.{Site}
 use Rattle.m3_machine.specs.Naming.{is_home}
 use Rattle.m3_machine.specs.Kernel.{is_under_close, revoke_with}
 use Rattle.m3_machine.specs.Machine.{Machine, link_at, mstep, done_by, of_kernel}
 use Rattle.m3_machine.specs.At.{all_closed, is_in, closed_if, closed_from, at, places_of}
-use Rattle.m3_machine.specs.Sound.{IsShut, ParcelOk, IsHoused, IsSeated, IsSound}
+use Rattle.m3_machine.specs.Sound.{IsShut, ParcelOk, IsSound}
 use Rattle.m3_machine.specs.Refines.{Refined}
 use Rattle.m3_machine.proofs.Reseats.{parcel_kernel}
 use Rattle.m3_machine.proofs.Closings.{numbered, numbered_back}
@@ -257,10 +256,12 @@ module _ (h : Site) (m : Machine) (sound : IsSound h m) (g : ℕ) (made : Option
       (place_by (Some why) k ∙ ap (λ b. places.did (Said.No why) (at m) (if b then record { held = false; places = places_of h m } else places.route (kernel_id' (at m)) (places.actor_for (places.target_of (flight (kernel_id' (at m)) (at m).flights)) (places_of h m)) (places_of h m)).places) same_next, sound)
   revoke_by None k =
       let next : State = record (at m) { grants = revoked (at m).grants g } in
-      subst (Refined h m e made) (sym (ap (λ o. done_by 0 m (Some (of_kernel (revoke_with m.kernel g o)))) k))
-      (place_by None k
-      ∙ ap (λ b. places.did (Said.Revoking g) next (if b then record { held = false; places = places_of h m } else places.route (kernel_id' (at m)) (places.actor_for (places.target_of (flight (kernel_id' (at m)) (at m).flights)) (places_of h m)) (places_of h m)).places) same_next
-      ∙ (λ i. places.did (Said.Revoking g) (sym state_next i) (places_of h m)), revoke_sound)
+      subst (Refined h m e made) (sym (ap (λ o. done_by 0 m (Some (of_kernel (revoke_with m.kernel g o)))) k)) (
+        place_by None k
+            ∙ ap (λ b. places.did (Said.Revoking g) next (if b then record { held = false; places = places_of h m } else places.route (kernel_id' (at m)) (places.actor_for (places.target_of (flight (kernel_id' (at m)) (at m).flights)) (places_of h m)) (places_of h m)).places) same_next
+            ∙ (λ i. places.did (Said.Revoking g) (sym state_next i) (places_of h m)),
+        revoke_sound,
+      )
 
   -- the order of a revoke, made or refused
   pub revoke_refines : Refined h m e made (mstep h m e made)

@@ -1,6 +1,6 @@
 -- The kernel routes a packet that is on its way nowhere yet: on the home link of a Placed activity, else into the hold list.
-use Rattle.std.proofs.Common.{◌≡◌, ◌≢◌, ℕ, zero, suc, ◌+◌, ◌*◌, ◌<◌, ◌≤◌, Bool, true, false, cond, List, [], ◌∷◌, ◌++◌, Some, None, refl, sym, subst, ◌∙◌, ap, arith, append_assoc, append-nil, set, get_or, length, map, Option, ◌⊎◌, inl, inr}
-use Rattle.std.specs.Prelude.{if◌then◌else◌, ◌==◌, not, ◌&&◌, ◌||◌, is_some}
+use Rattle.std.proofs.Common.{◌≡◌, ℕ, ◌+◌, ◌<◌, ◌≤◌, Bool, true, false, cond, List, [], ◌∷◌, ◌++◌, Some, None, refl, sym, subst, ◌∙◌, ap, arith, append_assoc, Option, inr}
+use Rattle.std.specs.Prelude.{if◌then◌else◌, ◌==◌, ◌&&◌, is_some}
 use Rattle.std.proofs.lemmas.Bool.Decides.{nat_tests}
 use Rattle.std.proofs.lemmas.List.{map-append}
 use Rattle.m3_base.specs.declared.ids.FlightId.{FlightId}
@@ -8,18 +8,18 @@ use Rattle.m3_base.specs.declared.packet.Packet.{Packet}
 use Rattle.m3_base.specs.Keyed as keyed
 use Rattle.m3_base.specs.Sums.{one, how_many}
 use Rattle.m3_base.specs.Flight.{name_of, flight, new_flight}
-use Rattle.m3_base.specs.State.{State, same_act, grant_in, context_of}
+use Rattle.m3_base.specs.State.{same_act, context_of}
 use Rattle.m3_base.specs.Places as places
 use Rattle.m3_base.specs.Places.{Places, Actor, target, actor_act, same_actor}
 use Rattle.m3_merge.specs.Parts.{Each}
 use Rattle.m3_merge.proofs.Merged.{each_append, each_map}
-use Rattle.m3_machine.specs.Parts.{Home, Site, home_act, home_of, tile_of, Parcel, Data, Save, Saved, Restore, Stay, Tile, Seating, Is_placed, Is_leaving, Is_resting, Is_coming, Seat, Kernel}
+use Rattle.m3_machine.specs.Parts.{Home, Site, home_act, home_of, tile_of, Data, Seating, Is_placed, Is_leaving, Is_resting, Is_coming, Seat, Kernel}
 use Rattle.m3_machine.specs.Naming.{is_home, is_named, is_named_context}
 use Rattle.m3_machine.specs.Tile.{stay_of}
-use Rattle.m3_machine.specs.Kernel.{seat_act, seat_of, with_seat, hold, is_placed_seat, is_leaving_seat, is_leaving_at, route_to, route, seat_for, Routed}
-use Rattle.m3_machine.specs.Machine.{Machine, tile_at, link_at, with_link, pushed, pushed_all}
-use Rattle.m3_machine.specs.At.{each, on_links, here, away, held_by, packets_in, contexts_in, all_contexts, all_packets, all_closed, by_act, by_name, closed_from, at, token, actor_in, actor_by, current_act, places_of}
-use Rattle.m3_machine.specs.Sound.{ActsApart, NamesApart, IsThere, act_of_seat, placed_on, is_placed_at, is_coming_at, has_home, is_leaving_of, is_here_seat, ParcelOk, SeatOk, HeldOk, GoesTo, Walks, IsHoused, IsSeated, IsSound}
+use Rattle.m3_machine.specs.Kernel.{seat_act, seat_of, hold, is_placed_seat, is_leaving_at, route_to, route, seat_for, Routed}
+use Rattle.m3_machine.specs.Machine.{Machine, tile_at, link_at, pushed, pushed_all}
+use Rattle.m3_machine.specs.At.{each, on_links, here, away, held_by, packets_in, contexts_in, all_contexts, all_packets, all_closed, by_act, closed_from, at, actor_in, actor_by, current_act, places_of}
+use Rattle.m3_machine.specs.Sound.{ActsApart, IsThere, act_of_seat, placed_on, is_placed_at, is_coming_at, has_home, is_leaving_of, is_here_seat, ParcelOk, SeatOk, HeldOk, GoesTo, Walks, IsSound}
 use Rattle.m3_machine.proofs.Inserts.{Inserts, inserts_right}
 use Rattle.m3_machine.proofs.Replaces.{around_replaced}
 use Rattle.m3_machine.proofs.Moved.{by_name-inserts}
@@ -27,9 +27,9 @@ use Rattle.m3_machine.proofs.Saving.{find_actor}
 use Rattle.m3_machine.proofs.Walks.{walks-data}
 use Rattle.m3_machine.proofs.Sets.{links_set}
 use Rattle.m3_machine.proofs.Pushed.{names_add, longer_places, sending_state, sending_sound}
-use Rattle.m3_machine.proofs.Emitting.{home_tile, home_is}
-use Rattle.m3_machine.proofs.Beside.{SeatOf, AreSeats, are_seats, actor_place, actor_hold, seat_tile, order_replaced, placed_one, placed_same}
-use Rattle.m3_machine.proofs.Reseats.{seat_key, reseated, seat_then, seat_now, seat_counts, placed_still, parcel_kernel, actors_then}
+use Rattle.m3_machine.proofs.Emitting.{home_tile}
+use Rattle.m3_machine.proofs.Beside.{SeatOf, AreSeats, are_seats, actor_place, seat_tile, order_replaced, placed_one, placed_same}
+use Rattle.m3_machine.proofs.Reseats.{seat_then, seat_now, seat_counts, placed_still, parcel_kernel, actors_then}
 
 -- ---- the seat of a home
 

@@ -1,9 +1,8 @@
 -- The order of a switch.
-use Rattle.std.proofs.Common.{◌≡◌, ◌≢◌, ℕ, zero, suc, ◌+◌, ◌*◌, ◌<◌, ◌≤◌, Bool, true, false, cond, List, [], ◌∷◌, ◌++◌, Some, None, refl, sym, subst, ◌∙◌, ap, arith, append_assoc, set, get_or, length, map, Option, ◌⊎◌, inl, inr}
+use Rattle.std.proofs.Common.{◌≡◌, ℕ, ◌+◌, ◌*◌, ◌<◌, ◌≤◌, Bool, true, false, cond, List, [], ◌∷◌, ◌++◌, Some, None, refl, sym, subst, ◌∙◌, ap, arith, set, length, map, Option}
 use Rattle.std.specs.Prelude.{if◌then◌else◌, ◌==◌, not, ◌&&◌, ◌||◌, is_some, filter}
 use Rattle.std.specs.List.{list_any}
 use Rattle.std.proofs.lemmas.Bool.Decides.{nat_tests}
-use Rattle.m3_base.specs.declared.packet.Packet.{Packet}
 use Rattle.m3_base.specs.declared.order.Order.{Order}
 use Rattle.m3_base.specs.declared.event.Event.{Event}
 use Rattle.m3_base.specs.declared.event.Made.{Made}
@@ -11,20 +10,18 @@ use Rattle.m3_base.specs.declared.event.No.{No}
 use Rattle.m3_base.specs.declared.event.Said.{Said}
 use Rattle.m3_base.specs.Keyed as keyed
 use Rattle.m3_base.specs.Sums.{one, how_many}
-use Rattle.m3_base.specs.Context.{Context}
-use Rattle.m3_base.specs.State.{State, context_of, same_act}
+use Rattle.m3_base.specs.State.{context_of, same_act}
 use Rattle.m3_base.specs.Places as places
 use Rattle.m3_base.specs.Places.{Places, Actor, pstep}
-use Rattle.m3_base.proofs.Keyed.{find-replaced_other}
 use Rattle.m3_merge.specs.Parts.{Each}
 use Rattle.m3_merge.proofs.Merged.{each_map}
-use Rattle.m3_machine.specs.Parts.{Home, Site, home_of, tile_of, Parcel, Save, Away, Seating, Is_placed, Is_leaving, Is_resting, Is_coming, Seat, Kernel, Deed, says}
+use Rattle.m3_machine.specs.Parts.{Home, Site, tile_of, Save, Away, Seating, Is_placed, Is_leaving, Is_resting, Is_coming, Seat, Kernel, says}
 use Rattle.m3_machine.specs.Naming.{is_home, is_named_context}
 use Rattle.m3_machine.specs.Tile.{stay_of}
 use Rattle.m3_machine.specs.Kernel.{seat_act, seat_of, seated, leave_ready, ready_at, is_placed_seat, is_leaving_seat, is_coming_seat, is_leaving_at, is_moving_at, placed_at, switch, switch_seat, switched}
-use Rattle.m3_machine.specs.Machine.{Machine, Is_kernel, tile_at, link_at, pushed, pushed_all, mstep, done_by, of_kernel}
-use Rattle.m3_machine.specs.At.{each, on_links, here, away, away_in, held_by, contexts_in, packets_in, closed_in, all_contexts, all_packets, all_closed, is_in, by_act, by_name, closed_from, at, token, actor_in, actor_by, current_act, places_of, standing}
-use Rattle.m3_machine.specs.Sound.{ActsApart, NamesApart, ClosedApart, IsThere, has_home, act_of_seat, placed_on, is_placed_at, is_coming_at, is_leaving_of, is_here_seat, ParcelOk, SeatOk, HeldOk, Walks, of_act, leavings, IsHoused, IsSeated, IsSound}
+use Rattle.m3_machine.specs.Machine.{Machine, tile_at, link_at, pushed, mstep, done_by, of_kernel}
+use Rattle.m3_machine.specs.At.{each, here, away, away_in, held_by, contexts_in, packets_in, closed_in, all_contexts, all_packets, all_closed, is_in, by_act, by_name, closed_from, at, actor_in, actor_by, current_act, places_of}
+use Rattle.m3_machine.specs.Sound.{ActsApart, NamesApart, ClosedApart, IsThere, has_home, act_of_seat, placed_on, is_placed_at, is_coming_at, is_leaving_of, is_here_seat, ParcelOk, SeatOk, HeldOk, Walks, leavings, IsSound}
 use Rattle.m3_machine.specs.Refines.{Refined}
 use Rattle.m3_machine.proofs.Inserts.{push_none}
 use Rattle.m3_machine.proofs.Replaces.{around_replaced}
@@ -35,7 +32,7 @@ use Rattle.m3_machine.proofs.Linkwise.{push_length, push_each, push_leavings, pu
 use Rattle.m3_machine.proofs.Pushed.{longer_places}
 use Rattle.m3_machine.proofs.Emitting.{home_tile}
 use Rattle.m3_machine.proofs.Beside.{SeatOf, AreSeats, are_seats, actor_seat, actor_place, seat_home, seat_tile, moving_any, placed_first, order_replaced, placed_none, placed_same, coming_same}
-use Rattle.m3_machine.proofs.Reseats.{seat_key, seat_then, seat_now, seat_counts, placed_still, parcel_kernel, actors_then}
+use Rattle.m3_machine.proofs.Reseats.{seat_then, seat_now, seat_counts, placed_still, parcel_kernel, actors_then}
 use Rattle.m3_machine.proofs.Routes.{Resident, resident}
 
 any_found : (p : Seat → Bool) (a : ℕ) (xs : List Seat) (x : Seat) → keyed.find seat_act same_act a xs ≡ Some x → p x ≡ true → list_any p xs ≡ true

@@ -1,28 +1,27 @@
 -- The kernel takes data, or a Yield.
-use Rattle.std.proofs.Common.{◌≡◌, ◌≢◌, ℕ, zero, suc, ◌+◌, ◌*◌, ◌<◌, ◌≤◌, Bool, true, false, cond, List, [], ◌∷◌, ◌++◌, Some, None, refl, sym, subst, ◌∙◌, ap, arith, set, get_or, length, map, Option, ◌⊎◌, inl, inr}
-use Rattle.std.specs.Prelude.{if◌then◌else◌, ◌==◌, not, ◌&&◌, ◌||◌, is_some}
-use Rattle.std.proofs.lemmas.Bool.Decides.{nat_tests}
+use Rattle.std.proofs.Common.{◌≡◌, ℕ, ◌+◌, ◌*◌, ◌<◌, ◌≤◌, Bool, true, false, cond, List, [], ◌∷◌, ◌++◌, Some, None, refl, sym, subst, ◌∙◌, ap, arith, set, length, map, Option}
+use Rattle.std.specs.Prelude.{◌||◌}
 use Rattle.std.proofs.lemmas.List.{map-set, get_or-map}
 use Rattle.m3_base.specs.declared.packet.Packet.{Packet}
 use Rattle.m3_base.specs.declared.event.Event.{Event}
 use Rattle.m3_base.specs.declared.event.Said.{Said}
-use Rattle.m3_base.specs.Sums.{one, how_many}
-use Rattle.m3_base.specs.Flight.{name_of, flight, new_flight}
+use Rattle.m3_base.specs.Sums.{one}
+use Rattle.m3_base.specs.Flight.{name_of, new_flight}
 use Rattle.m3_base.specs.State.{State, context_of}
 use Rattle.m3_base.specs.Places as places
 use Rattle.m3_base.specs.Places.{pstep, target, target_of}
 use Rattle.m3_merge.specs.Parts.{Each}
 use Rattle.m3_merge.proofs.Merged.{each_map}
 use Rattle.m3_machine.proofs.Reseats.{parcel_kernel}
-use Rattle.m3_machine.specs.Parts.{Site, tile_of, Parcel, Data, Save, Saved, Restore, Yield, Closed, Seat, Kernel, says, dropped}
-use Rattle.m3_machine.specs.Naming.{is_home, is_named, is_named_context}
+use Rattle.m3_machine.specs.Parts.{Site, tile_of, Parcel, Data, Yield, Seat, says, dropped}
+use Rattle.m3_machine.specs.Naming.{is_named, is_named_context}
 use Rattle.m3_machine.specs.Kernel.{seat_of, is_placed_seat, is_leaving_seat, with_yielded, route, take_routed, routed_said, target_or, take_yield, kernel_take, Routed}
 use Rattle.m3_machine.specs.Machine.{Machine, Is_kernel, tile_at, link_at, with_link, with_part, mstep, done_by, part_step, front, rest, of_kernel}
-use Rattle.m3_machine.specs.At.{each, on_links, here, away, held_by, contexts_in, packets_in, closed_in, all_contexts, all_packets, all_closed, is_in, by_act, by_name, closed_from, at, token, actor_in, current_act, places_of}
-use Rattle.m3_machine.specs.Sound.{ActsApart, NamesApart, ClosedApart, IsThere, is_here_seat, ParcelOk, GoesTo, Walks, placed_on, of_act, leavings, IsHoused, IsSeated, IsSound}
+use Rattle.m3_machine.specs.At.{each, here, away, held_by, contexts_in, packets_in, closed_in, all_contexts, all_packets, all_closed, is_in, by_act, by_name, closed_from, at, token, current_act, places_of}
+use Rattle.m3_machine.specs.Sound.{ActsApart, NamesApart, ClosedApart, IsThere, is_here_seat, ParcelOk, GoesTo, Walks, placed_on, of_act, leavings, IsSound}
 use Rattle.m3_machine.specs.Refines.{Refined}
 use Rattle.m3_machine.proofs.Inserts.{pop_none}
-use Rattle.m3_machine.proofs.Saving.{tokens, find_actor}
+use Rattle.m3_machine.proofs.Saving.{tokens}
 use Rattle.m3_machine.proofs.Sets.{is_link, links_set}
 use Rattle.m3_machine.proofs.Linkwise.{pop_length, pop_front, pop_each, pop_leavings, pop_orderly}
 use Rattle.m3_machine.proofs.Popped.{popped_absent, popped_flights, popped_flies, popped_state, popped_places, popped_ok, popped_sound}

@@ -1,25 +1,25 @@
 -- The front of a hold list is applied to the context in the kernel: what it does to the machine, before anything is emitted.
-use Rattle.std.proofs.Common.{◌≡◌, ◌≢◌, ℕ, zero, suc, ◌+◌, ◌*◌, ◌<◌, ◌≤◌, Bool, true, false, cond, List, [], ◌∷◌, ◌++◌, Some, None, refl, sym, subst, ◌∙◌, ap, arith, append_assoc, append-nil, set, get_or, length, map, Option, ◌⊎◌, inl, inr}
-use Rattle.std.specs.Prelude.{if◌then◌else◌, ◌==◌, not, ◌&&◌, ◌||◌, is_some}
+use Rattle.std.proofs.Common.{◌≡◌, ℕ, ◌+◌, Bool, true, false, cond, List, [], ◌∷◌, ◌++◌, Some, None, refl, sym, subst, ◌∙◌, ap, arith, append_assoc, set, get_or, map}
+use Rattle.std.specs.Prelude.{◌==◌, ◌&&◌, ◌||◌}
 use Rattle.std.proofs.lemmas.Bool.Decides.{nat_tests}
 use Rattle.m3_base.specs.declared.packet.Packet.{Packet}
 use Rattle.m3_base.specs.Keyed as keyed
 use Rattle.m3_base.specs.Sums.{one, how_many}
 use Rattle.m3_base.specs.Flight.{name_of, flight, new_flight}
 use Rattle.m3_base.specs.Context.{Context}
-use Rattle.m3_base.specs.State.{State, context_of, put_context, same_act}
+use Rattle.m3_base.specs.State.{context_of, put_context, same_act}
 use Rattle.m3_base.specs.Places as places
 use Rattle.m3_base.specs.Places.{Places, Actor, joins}
 use Rattle.m3_merge.specs.Parts.{Each}
 use Rattle.m3_merge.proofs.Merged.{each_map}
 use Rattle.m3_merge.proofs.Stamps.{each_back}
-use Rattle.m3_machine.specs.Parts.{Home, Site, home_of, tile_of, has_program, programmed, Heard, heard_of, Parcel, Tile, Away, Seating, Is_placed, Is_leaving, Is_resting, Is_coming, Seat, Kernel}
-use Rattle.m3_machine.specs.Naming.{is_home, is_named_context}
+use Rattle.m3_machine.specs.Parts.{Home, Site, tile_of, Tile, Away, Seating, Is_resting, Is_coming, Seat, Kernel}
+use Rattle.m3_machine.specs.Naming.{is_named_context}
 use Rattle.m3_machine.specs.Tile.{stay_of}
-use Rattle.m3_machine.specs.Kernel.{seat_act, seat_of, with_seat, join_ready, after_packet, is_placed_seat, is_leaving_seat, is_coming_seat, is_leaving_at}
+use Rattle.m3_machine.specs.Kernel.{seat_act, seat_of, join_ready, after_packet, is_placed_seat, is_leaving_seat, is_coming_seat, is_leaving_at}
 use Rattle.m3_machine.specs.Machine.{Machine, tile_at, link_at}
-use Rattle.m3_machine.specs.At.{each, on_links, here, away, away_in, held_by, contexts_in, packets_in, all_contexts, all_packets, all_closed, by_act, by_name, closed_from, at, actor_in, actor_by, current_act, standing, places_of}
-use Rattle.m3_machine.specs.Sound.{ActsApart, NamesApart, IsThere, act_of_seat, placed_on, is_placed_at, is_coming_at, is_leaving_of, is_here_seat, stay_at, EndedAs, ParcelOk, SeatOk, HeldOk, Walks, IsHoused, IsSeated, IsSound}
+use Rattle.m3_machine.specs.At.{each, on_links, here, away, away_in, held_by, contexts_in, packets_in, all_contexts, all_packets, all_closed, by_name, closed_from, at, actor_in, actor_by, current_act, standing, places_of}
+use Rattle.m3_machine.specs.Sound.{is_placed_at, is_coming_at, is_leaving_of, is_here_seat, stay_at, EndedAs, ParcelOk, SeatOk, HeldOk, Walks, IsSound}
 use Rattle.m3_machine.proofs.Inserts.{Inserts, inserts_right}
 use Rattle.m3_machine.proofs.Replaces.{around_replaced}
 use Rattle.m3_machine.proofs.Moved.{by_name-inserts}

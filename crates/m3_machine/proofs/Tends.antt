@@ -1,27 +1,25 @@
 -- The kernel tends an activity that is away: the whole event.
-use Rattle.std.proofs.Common.{◌≡◌, ◌≢◌, ℕ, zero, suc, ◌+◌, ◌*◌, ◌<◌, ◌≤◌, Bool, true, false, cond, List, [], ◌∷◌, ◌++◌, Some, None, refl, sym, subst, ◌∙◌, ap, arith, append_assoc, append-nil, set, get_or, length, map, Option, ◌⊎◌, inl, inr}
-use Rattle.std.specs.Prelude.{if◌then◌else◌, ◌==◌, not, ◌&&◌, ◌||◌, is_some}
+use Rattle.std.proofs.Common.{◌≡◌, ℕ, ◌<◌, ◌≤◌, Bool, true, false, cond, List, [], ◌∷◌, ◌++◌, Some, None, refl, sym, subst, ◌∙◌, ap, arith, map, Option, ◌⊎◌, inl, inr}
+use Rattle.std.specs.Prelude.{if◌then◌else◌, not, ◌&&◌, ◌||◌}
 use Rattle.std.specs.List.{list_any}
-use Rattle.std.proofs.lemmas.Bool.Decides.{nat_tests}
 use Rattle.m3_base.specs.declared.ids.FlightId.{FlightId}
 use Rattle.m3_base.specs.declared.packet.Packet.{Packet}
 use Rattle.m3_base.specs.declared.event.Event.{Event}
 use Rattle.m3_base.specs.declared.event.Made.{Made}
 use Rattle.m3_base.specs.declared.event.IdleWhy.{IdleWhy}
-use Rattle.m3_base.specs.declared.event.Said.{Said}
-use Rattle.m3_base.specs.Flight.{name_of, flight, new_flight}
+use Rattle.m3_base.specs.Flight.{name_of, flight}
 use Rattle.m3_base.specs.Context.{Context, endpoint}
-use Rattle.m3_base.specs.Land.{grant_of, has_closing}
+use Rattle.m3_base.specs.Land.{has_closing}
 use Rattle.m3_base.specs.State.{Grant, State, context_of, put_context, grant_in}
 use Rattle.m3_base.specs.Steps.{with_packet}
 use Rattle.m3_base.specs.Arrive.{Arrived, arrive}
 use Rattle.m3_base.specs.Fits.{fits, arrive_fit}
 use Rattle.m3_base.specs.Places as places
 use Rattle.m3_base.specs.Places.{Places, Actor, pstep, target, came, push_closed}
-use Rattle.m3_machine.specs.Parts.{Home, Site, home_of, tile_of, has_program, programmed, Parcel, Closed, Stay, Away, Seating, Is_placed, Is_leaving, Is_resting, Is_coming, Seat, Kernel, Deed, is_idle, closed_out}
-use Rattle.m3_machine.specs.Naming.{is_home, is_named, is_named_context}
+use Rattle.m3_machine.specs.Parts.{Site, home_of, tile_of, has_program, programmed, Parcel, Closed, Stay, Away, Seating, Is_placed, Is_leaving, Is_resting, Is_coming, Seat, Kernel, Deed, is_idle, closed_out}
+use Rattle.m3_machine.specs.Naming.{is_home, is_named_context}
 use Rattle.m3_machine.specs.Tile.{stay_of}
-use Rattle.m3_machine.specs.Kernel.{seat_act, seat_of, with_seat, join_ready, route, Routed, answer_routed, arrived_context, after_packet, tended_by, tend_arrived, tend_away, tend_front, tend_seat, tend_by, kernel_tend, then_restore, is_under_close}
+use Rattle.m3_machine.specs.Kernel.{seat_of, with_seat, join_ready, Routed, answer_routed, arrived_context, after_packet, tended_by, tend_arrived, tend_away, tend_front, tend_seat, tend_by, is_under_close}
 use Rattle.m3_machine.specs.Machine.{Machine, tile_at, link_at, pushed, pushed_all, mstep, done_by, of_kernel}
 use Rattle.m3_machine.specs.At.{all_packets, all_closed, at, standing, actor_in, actor_by, current_act, places_of}
 use Rattle.m3_machine.specs.Sound.{IsThere, stay_at, EndedAs, HeldThere, is_open, IsShut, SeatOk, HeldOk, Walks, placed_on, Hypotheses, IsSound}
@@ -36,10 +34,10 @@ use Rattle.m3_machine.proofs.Named.{NamedIf, NamedBy, arrive_names}
 use Rattle.m3_machine.proofs.Closings.{closes_one, open_grant}
 use Rattle.m3_machine.proofs.Emitting.{ShutsIf, Shuts, Emits, named_target}
 use Rattle.m3_machine.proofs.Landing.{fits_arrives}
-use Rattle.m3_machine.proofs.Beside.{SeatOf, actor_place, actor_hold, seat_tile}
-use Rattle.m3_machine.proofs.Routes.{Resident, resident, Routes, route_is, routed_by}
+use Rattle.m3_machine.proofs.Beside.{actor_place, actor_hold, seat_tile}
+use Rattle.m3_machine.proofs.Routes.{Resident, resident, route_is}
 use Rattle.m3_machine.proofs.Comes.{Restores, then_restores, next_one, next_same}
-use Rattle.m3_machine.proofs.Tended.{sits_as, ready_then, ready_kernel, kernel_applied, applying, applied_absent, applied_apart, applied_flights, applied_flies, away_found, away_each, applied_state, applied_sound, applied_places}
+use Rattle.m3_machine.proofs.Tended.{sits_as, ready_kernel, applying, applied_absent, applied_apart, applied_flights, applied_flies, away_found, away_each, applied_state, applied_sound, applied_places}
 
 -- ---- what the kernel emits
 
