@@ -27,3 +27,4 @@ pub mod Opened
 pub mod Gone
 pub mod Example
 pub mod Lasting
+pub mod ProperSteps
