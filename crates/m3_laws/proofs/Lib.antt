@@ -28,3 +28,4 @@ pub mod Gone
 pub mod Example
 pub mod Lasting
 pub mod ProperSteps
+pub mod ProperIssue

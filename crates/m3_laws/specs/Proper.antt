@@ -4,6 +4,7 @@ use Rattle.m3_base.specs.declared.ids.FlightId.{FlightId}
 use Rattle.m3_base.specs.declared.message.Message.{Message}
 use Rattle.m3_base.specs.declared.packet.Packet.{Packet}
 use Rattle.m3_base.specs.declared.packet.Fresh.{Fresh}
+use Rattle.m3_base.specs.declared.command.Answer.{Answer}
 use Rattle.m3_base.specs.declared.packet.Perm.{Perm}
 use Rattle.m3_base.specs.declared.order.GrantLine.{GrantLine}
 use Rattle.m3_base.specs.declared.step.Step.{Step}
@@ -107,13 +108,16 @@ abbrev pub uses_write : ℕ → Option Use → Bool
 uses_write g None = false
 uses_write g (Some u) = is_writing u.kind && is_grant g u.grant
 
+abbrev pub gets : Answer → Option Use → Bool
+gets answer None = false
+gets answer (Some u) = is_answer_for u.kind answer
+
 -- the command of this use can have sent this packet, or get this answer
 abbrev pub expects : Option Use → Packet → Bool
-expects None (Packet.Answer id answer) = false
-expects (Some u) (Packet.Answer id answer) = is_answer_for u.kind answer
 expects u (Packet.Message to ep h m) = if m.header.flags == 0 then uses_send m.header.send u else uses_reply u
 expects u (Packet.Read id h place buffer) = uses_read h u
 expects u (Packet.Write id h place payload) = uses_write h u
+expects u (Packet.Answer id answer) = gets answer u
 expects u (Packet.Credit id to h) = true
 expects u (Packet.Install id to ep f) = true
 expects u (Packet.Close id to ep h) = true
@@ -159,7 +163,7 @@ pub record IsProper (s : State) : Type 0 where
   pub packets : (id : FlightId) (p : Packet) → flight id s.flights ≡ Some p → ProperPacket s.grants s.contexts p
   pub grants : (g : ℕ) (x : Grant) → grant_in s.grants g ≡ Some x → ProperGrant (length s.memory) x
   pub orders : 0 < s.kernel_next
-  pub few : length s.grants ≤ 4096
+  pub few : (g : ℕ) (x : Grant) → grant_in s.grants g ≡ Some x → g ≤ 4096
   pub memory : length s.memory ≤ 1048576
 
 -- a step whose grant line keeps the limits of its numbers
