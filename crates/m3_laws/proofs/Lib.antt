@@ -29,3 +29,4 @@ pub mod Example
 pub mod Lasting
 pub mod ProperSteps
 pub mod ProperIssue
+pub mod ProperLandings
