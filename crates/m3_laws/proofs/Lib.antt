@@ -30,3 +30,4 @@ pub mod Lasting
 pub mod ProperSteps
 pub mod ProperIssue
 pub mod ProperLandings
+pub mod ProperOrders
