@@ -31,3 +31,4 @@ pub mod ProperSteps
 pub mod ProperIssue
 pub mod ProperLandings
 pub mod ProperOrders
+pub mod ProperRuns

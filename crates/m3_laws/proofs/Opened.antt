@@ -56,7 +56,7 @@ reset s fs k e z law =
 
 -- ---- a new activity
 
-find_inserted : (a : ℕ) (d : Context) (cs : List Context) → context_of d.act cs ≡ None → (x : Context) → context_of a (new_context_in d cs) ≡ Some x → ((a ≡ d.act) × (x ≡ d)) ⊎ (context_of a cs ≡ Some x)
+pub find_inserted : (a : ℕ) (d : Context) (cs : List Context) → context_of d.act cs ≡ None → (x : Context) → context_of a (new_context_in d cs) ≡ Some x → ((a ≡ d.act) × (x ≡ d)) ⊎ (context_of a cs ≡ Some x)
 find_inserted a d [] n x e = by_act (same_act a d.act) refl
   where
     by_act : (b : Bool) → same_act a d.act ≡ b → ((a ≡ d.act) × (x ≡ d)) ⊎ (context_of a [] ≡ Some x)
@@ -95,7 +95,7 @@ acts_inserted d (y ∷ ys) n h = by_order (nat_lt d.act y.act) (acts_inserted d 
     by_order true ih = (n, h)
     by_order false ih = (none_inserted y.act d ys apart h.0, ih)
 
-free_at : (n i : ℕ) → get_or (replicate n Free) i Free ≡ Free
+pub free_at : (n i : ℕ) → get_or (replicate n Free) i Free ≡ Free
 free_at zero i = refl
 free_at (suc n) zero = refl
 free_at (suc n) (suc i) = free_at n i
@@ -220,7 +220,7 @@ lines_early : (s : State) (ls : List SetupLine) → AllObey s ls → Early s →
 lines_early s [] o early = early
 lines_early s (l ∷ ls) o early = lines_early (with_line s l) ls o.1 (line_early s l o.0 early)
 
-no_grant : (g : ℕ) → grant_in [] g ≡ None
+pub no_grant : (g : ℕ) → grant_in [] g ≡ None
 no_grant g = grind (arith, nat_tests)
 
 empty_early : (memory : ℕ) → Early (empty memory)

@@ -235,7 +235,7 @@ module _ (s : State) (law : IsLawful s) (ok : IsProper s) (id : FlightId) (to ep
 
 -- ---- a read or a write
 
-take_short : (n : ℕ) (xs : List ℕ) → length (take n xs) ≤ n
+pub take_short : (n : ℕ) (xs : List ℕ) → length (take n xs) ≤ n
 take_short zero xs = omega arith
 take_short (suc n) [] = omega arith
 take_short (suc n) (x ∷ xs) = let z = take_short n xs in omega (arith, z)

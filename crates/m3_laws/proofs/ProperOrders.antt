@@ -53,10 +53,10 @@ use_elsewhere c ep e (Some f) h = by_set (at_set c.endpoints ep f.ep e)
     by_set (inl q) = ap (λ z. Some (record { kind = f.kind; grant = grant_of z })) q
     by_set (inr q) = absurd (h f refl q.0)
 
-set_tidy : (c : Context) (ep : ℕ) (e : Endpoint) → ProperContext c → is_tidy e ≡ true → ProperContext (with_endpoint c ep e)
+pub set_tidy : (c : Context) (ep : ℕ) (e : Endpoint) → ProperContext c → is_tidy e ≡ true → ProperContext (with_endpoint c ep e)
 set_tidy c ep e p t = record { next = p.next; queues = tidy_set c.endpoints ep e p.queues t }
 
-opened_tidy : (f : Fresh) → is_tidy (opened f) ≡ true
+pub opened_tidy : (f : Fresh) → is_tidy (opened f) ≡ true
 opened_tidy (Fresh.Send g a b d l z n) = refl
 opened_tidy (Fresh.Receive g slots size) = refl
 opened_tidy (Fresh.Memory g start len perm) = refl
