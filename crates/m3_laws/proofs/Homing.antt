@@ -15,7 +15,7 @@ use Rattle.m3_base.specs.Steps.{number_of}
 use Rattle.m3_base.specs.Credit.{carries, waiting, credits}
 use Rattle.m3_base.proofs.Names.{Apart, Distinct, same_name-itself, same_name-is}
 use Rattle.m3_laws.proofs.Landing.{credits_are, same_act-is, same_act-itself}
-use Rattle.m3_laws.proofs.Lawful.{is_at, open_at, form_of, Held, HeldAt, FormLawful, InstallLawful, ActsDistinct, Placed}
+use Rattle.m3_laws.specs.Lawful.{is_at, open_at, form_of, Held, HeldAt, FormLawful, InstallLawful, ActsDistinct, Placed}
 use Rattle.m3_laws.specs.Laws.{installs}
 use Rattle.m3_laws.specs.Laws.{is_open, limit_of}
 use Rattle.m3_laws.proofs.Counts.{one_found}

@@ -9,7 +9,6 @@ pub mod Homes
 pub mod Sound
 pub mod Kept
 pub mod OrderCredits
-pub mod Lawful
 pub mod Tree
 pub mod Ordering
 pub mod Counts
@@ -32,3 +31,4 @@ pub mod ProperIssue
 pub mod ProperLandings
 pub mod ProperOrders
 pub mod ProperRuns
+pub mod Invariants

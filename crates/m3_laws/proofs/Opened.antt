@@ -18,7 +18,7 @@ use Rattle.m3_base.proofs.Names.{same_name-itself}
 use Rattle.m3_laws.proofs.Weights.{context_weight}
 use Rattle.m3_laws.proofs.Landing.{credits_are}
 use Rattle.m3_laws.proofs.Answering.{after_ending}
-use Rattle.m3_laws.proofs.Lawful.{open_at, sent_at, KeepsOpen, QueueLawful, ContextLawful, ActsDistinct, CreditsLawful, IsLawful, is_at}
+use Rattle.m3_laws.specs.Lawful.{open_at, sent_at, KeepsOpen, QueueLawful, ContextLawful, ActsDistinct, CreditsLawful, IsLawful, is_at}
 use Rattle.m3_laws.specs.Laws.{is_open}
 use Rattle.m3_laws.proofs.Tree.{grant_added}
 use Rattle.m3_laws.proofs.Data.{credits_keep}
@@ -31,8 +31,9 @@ use Rattle.m3_base.specs.Opening.{opening, with_line, with_lines, granted, insta
 use Rattle.m3_base.specs.Messages.{final}
 use Rattle.m3_base.proofs.Sorting.{find-new}
 use Rattle.m3_laws.proofs.Landing.{same_act-is}
-use Rattle.m3_laws.specs.Laws.{Obeys, AllObey, Declared, AllFit, CreditLaw, RecordLaw, ChildrenLaw, empty}
-use Rattle.m3_laws.proofs.Lawful.{FormLawful, form_of}
+use Rattle.m3_base.specs.Obeys.{Obeys, AllObey, Declared}
+use Rattle.m3_laws.specs.Laws.{AllFit, CreditLaw, RecordLaw, ChildrenLaw, empty}
+use Rattle.m3_laws.specs.Lawful.{FormLawful, form_of}
 use Rattle.m3_laws.proofs.Orders.{made_lawful, install_lawful}
 use Rattle.m3_laws.proofs.Runs.{run_lawful}
 use Rattle.m3_laws.proofs.Places.{record_open}

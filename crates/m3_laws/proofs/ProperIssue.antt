@@ -19,7 +19,7 @@ use Rattle.m3_base.specs.Fits.{is_between, is_grant_number, is_reply_place, is_m
 use Rattle.m3_base.specs.Flight.{kernel}
 use Rattle.m3_laws.proofs.Issuing.{some_is, came_through}
 use Rattle.m3_laws.proofs.Commands.{flying_at-new}
-use Rattle.m3_laws.proofs.Lawful.{form_of, face}
+use Rattle.m3_laws.specs.Lawful.{form_of, face}
 use Rattle.m3_laws.proofs.Counts.{SameFaces, some_at}
 use Rattle.m3_laws.proofs.Faces.{face_put}
 use Rattle.m3_laws.proofs.ProperSteps.{same_grant, tidy_set}

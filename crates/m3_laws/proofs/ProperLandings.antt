@@ -23,11 +23,10 @@ use Rattle.m3_base.proofs.Keyed.{find-replaced_same}
 use Rattle.m3_base.proofs.Names.{Apart, ended}
 use Rattle.m3_laws.proofs.Landing.{after_landing, same_act-is, same_act-itself}
 use Rattle.m3_laws.proofs.Answering.{after_ending}
-use Rattle.m3_laws.proofs.Standing.{StandsAt}
-use Rattle.m3_laws.proofs.Commands.{StandsBy, NewPacket, Does, issue_does}
+use Rattle.m3_laws.proofs.Commands.{NewPacket, Does, issue_does}
 use Rattle.m3_laws.proofs.Sound.{act_found, name_found, apart_found}
 use Rattle.m3_laws.proofs.Kept.{found_ended}
-use Rattle.m3_laws.proofs.Lawful.{IsLawful, HeldAt, FormLawful, form_of}
+use Rattle.m3_laws.specs.Lawful.{IsLawful, HeldAt, FormLawful, form_of}
 use Rattle.m3_laws.proofs.Counts.{SameFaces, same_faces, at_set}
 use Rattle.m3_laws.proofs.Tree.{grant_past}
 use Rattle.m3_laws.proofs.Places.{install_free}
@@ -36,6 +35,7 @@ use Rattle.m3_laws.proofs.Faces.{found_changed, issue_faces, taken_faces, credit
 use Rattle.m3_laws.proofs.ProperSteps.{same_grant, use_same, use_put, proper_put, Follows, tidy_set, lasts_same, packet_kept}
 use Rattle.m3_laws.proofs.ProperIssue.{Recorded, Ready, Emits, NewProper, issue_emits, messages_push, fetched_less, fetched_marked}
 use Rattle.m3_laws.specs.Proper.{Use, use_by, use_of, use_in, gets, expects, uses_send, uses_reply, is_proper, is_tidy, is_covered, is_entitled, is_inside, ProperPacket, ProperContext, ProperGrant, IsProper}
+use Rattle.m3_laws.specs.Stands.{StandsAt, StandsBy}
 
 -- ---- a command
 

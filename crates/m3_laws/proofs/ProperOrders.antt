@@ -20,12 +20,9 @@ use Rattle.m3_base.specs.Limits.{is_within, is_in_limits}
 use Rattle.m3_base.specs.Fits.{is_form}
 use Rattle.m3_base.proofs.Names.{Apart, ended}
 use Rattle.m3_laws.proofs.Answering.{after_ending}
-use Rattle.m3_laws.proofs.Standing.{StandsAt}
-use Rattle.m3_laws.proofs.Commands.{StandsBy}
-use Rattle.m3_laws.proofs.Moving.{Stands}
 use Rattle.m3_laws.proofs.Sound.{act_found, apart_found}
 use Rattle.m3_laws.proofs.Kept.{found_ended}
-use Rattle.m3_laws.proofs.Lawful.{IsLawful}
+use Rattle.m3_laws.specs.Lawful.{IsLawful}
 use Rattle.m3_laws.proofs.Counts.{at_set}
 use Rattle.m3_laws.proofs.Tree.{Changes, at_one, grant_added, grant_past, changed_from}
 use Rattle.m3_laws.proofs.Ordering.{closing_changes, one_changes}
@@ -36,6 +33,7 @@ use Rattle.m3_laws.proofs.ProperSteps.{same_grant, use_same, use_put, proper_put
 use Rattle.m3_laws.proofs.ProperIssue.{fetched_less, fetched_marked}
 use Rattle.m3_laws.proofs.ProperLandings.{Rests, rests_faces, proper_ended}
 use Rattle.m3_laws.specs.Proper.{Use, use_by, use_of, expects, is_proper, is_tidy, is_entitled, is_held_at, is_inside, ProperPacket, ProperContext, ProperGrant, IsProper}
+use Rattle.m3_laws.specs.Stands.{Stands, StandsAt, StandsBy}
 
 -- ---- an endpoint that no command uses changes
 

@@ -29,7 +29,7 @@ use Rattle.m3_base.proofs.SetupRules.{grant_allowed, noted_memory}
 use Rattle.m3_base.proofs.Obeying.{Ties, obeys, ties, tied_at_first}
 use Rattle.m3_laws.proofs.Answering.{after_ending}
 use Rattle.m3_laws.proofs.Sound.{act_found, name_found}
-use Rattle.m3_laws.proofs.Lawful.{IsLawful}
+use Rattle.m3_laws.specs.Lawful.{IsLawful}
 use Rattle.m3_laws.proofs.Places.{install_free}
 use Rattle.m3_laws.proofs.Placing.{to_closed, to_done}
 use Rattle.m3_laws.proofs.Opened.{find_inserted, free_at, no_grant}

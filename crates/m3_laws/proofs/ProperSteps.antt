@@ -16,7 +16,7 @@ use Rattle.m3_base.specs.Credit.{covers}
 use Rattle.m3_base.proofs.Keyed.{find-replaced_same, find-replaced_other}
 use Rattle.m3_laws.proofs.Landing.{same_act-is, act_joins, same_act-itself}
 use Rattle.m3_laws.proofs.Sound.{found_after}
-use Rattle.m3_laws.proofs.Lawful.{form_of}
+use Rattle.m3_laws.specs.Lawful.{form_of}
 use Rattle.m3_laws.proofs.Counts.{SameFaces, same_form}
 use Rattle.m3_laws.proofs.Tree.{Changes, grant_added, grant_past}
 use Rattle.m3_laws.specs.Proper.{Use, use_by, use_in, use_of, expects, is_proper, is_tidy, is_covered, is_held_at, is_entitled, ProperPacket, ProperContext, ProperGrant, IsProper}

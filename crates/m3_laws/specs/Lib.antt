@@ -1,3 +1,6 @@
 pub mod Plain
 pub mod Laws
+pub mod Stands
+pub mod Lawful
 pub mod Proper
+pub mod Invariant
