@@ -32,3 +32,4 @@ pub mod ProperLandings
 pub mod ProperOrders
 pub mod ProperRuns
 pub mod Invariants
+pub mod Fitting

@@ -4,3 +4,4 @@ pub mod Stands
 pub mod Lawful
 pub mod Proper
 pub mod Invariant
+pub mod Held
