@@ -10,3 +10,4 @@ pub mod SetupRules
 pub mod Obeying
 pub mod Programmed
 pub mod Seeing
+pub mod Replies

@@ -1,23 +1,17 @@
--- The replies that a journal prints for an activity are those that its ideal steps give it.
-use Rattle.std.proofs.Common.{◌≡◌, ◌≢◌, ℕ, zero, suc, ◌+◌, ◌<◌, Bool, true, false, List, [], ◌∷◌, ◌++◌, length, Some, None, refl, sym, ◌∙◌, ap, subst, arith, append_assoc, inl, inr}
-use Rattle.std.specs.Prelude.{Option, ◌==◌, ◌⊎◌, not, if◌then◌else◌, nat_lt, nat_le, is_some, is_none, IsSomeAnd}
+-- What a command is told at once is what its entry prints.
+use Rattle.std.proofs.Common.{◌≡◌, ℕ, Bool, true, false, List, [], ◌∷◌, length, Some, None, refl, ◌∙◌, ap, subst}
+use Rattle.std.specs.Prelude.{Option, ◌==◌, not, if◌then◌else◌}
 use Rattle.m3_base.specs.declared.ids.FlightId.{FlightId}
 use Rattle.m3_base.specs.declared.message.Message.{Message}
 use Rattle.m3_base.specs.declared.command.Command.{Command}
 use Rattle.m3_base.specs.declared.command.Refusal.{Refusal}
 use Rattle.m3_base.specs.declared.command.Reply.{Reply}
-use Rattle.m3_base.specs.declared.command.Answer.{Answer}
-use Rattle.m3_base.specs.declared.event.Said.{Said}
-use Rattle.m3_base.specs.declared.step.Step.{Step}
 use Rattle.m3_base.specs.Context.{Endpoint, Free, Sends, Receives, Reaches, ReceiveRecord, Context, endpoint}
 use Rattle.m3_base.specs.State.{State, context_of}
 use Rattle.m3_base.specs.Receive.{fetched_at, unmarked}
 use Rattle.m3_base.specs.Issue.{Told, Gives, Flies, Issued, issue, is_busy, next_id, first_of, unless, unless_busy, send, send_refusal, reply, reply_refusal, reply_to, fetch, fetch_from, acknowledge, acknowledge_at, acknowledged, may_read, may_write, access_refusal, read, write}
-use Rattle.std.proofs.lemmas.List.{append-nil}
-use Rattle.m3_base.specs.Steps.{Word, Ran, Next, istep, irun, on_from, issue_in, issued_in}
-use Rattle.m3_base.specs.Entries.{SaysBy, Shows, shown_told, shown_reply, shown_message}
-use Rattle.m3_base.specs.Messages.{state_after, final}
-use Rattle.m3_base.specs.Seen.{printed_at_issue, printed_fetch, printed_message, printed_reply, with_header, front_of, front_header, front_at, told_reply, given, given_by}
+use Rattle.m3_base.specs.Entries.{shown_told, shown_message}
+use Rattle.m3_base.specs.Seen.{printed_at_issue, printed_fetch, printed_message, printed_reply, with_header, front_of, front_header, front_at, told_reply}
 
 -- what a command that isn't a fetch or an acknowledgement may be told at once
 pub data IsRefusedOrFlies : Told → Type 0 where
@@ -150,29 +144,3 @@ prints s b (Command.Read ep off len) x i h e =
 prints s b (Command.Write ep off payload) x i h e =
     let w = not_busy x (write x ep off payload (endpoint x ep)) i e in
     subst (λ j. Prints s b (Command.Write ep off payload) j.told) w (prints_write s b ep off payload _ (write_told x ep off payload (endpoint x ep)))
-
--- ---- what one entry prints, and what its steps give
-
-given_one : (a : ℕ) (s : State) (t : Step) → given a s (t ∷ []) ≡ given_by a t (istep s t)
-given_one a s t = append-nil (given_by a t (istep s t))
-
-issued_given : (a b : ℕ) (s : State) (c : Command) (said : Said) → SaysBy (Step.Issue b c ∷ []) s said → (if b == a then printed_at_issue s b c said else []) ≡ given a s (Step.Issue b c ∷ [])
-issued_given a b s c said h = by_context (context_of b s.contexts) refl h
-  where
-    P : Option Next → Type 0
-    P n = IsSomeAnd (on_from (irun []) n) (λ r. Shows r.words said) → (if b == a then printed_at_issue s b c said else []) ≡ given_by a (Step.Issue b c) n ++ []
-
-    by_told : (x : Context) (i : Issued) → context_of b s.contexts ≡ Some x → issue x c ≡ Some i → P (issued_in s (Some i))
-    by_told x i e w (inl z) =
-        let same : shown_told i.told ≡ said = cc in
-        let q : printed_at_issue s b c said ≡ told_reply i.told = subst (λ y. printed_at_issue s b c y ≡ told_reply i.told) same (prints s b c x i e w) in
-        ap (λ l. if b == a then l else []) q ∙ sym (append-nil (if b == a then told_reply i.told else []))
-    by_told x i e w (inr z) = absurd z
-
-    by_issued : (x : Context) (o : Option Issued) → context_of b s.contexts ≡ Some x → issue x c ≡ o → P (issued_in s o)
-    by_issued x None e w z = absurd z
-    by_issued x (Some i) e w z = by_told x i e w z
-
-    by_context : (o : Option Context) → context_of b s.contexts ≡ o → P (issue_in s o c)
-    by_context None e z = absurd z
-    by_context (Some x) e z = by_issued x (issue x c) e refl z

@@ -1,5 +1,7 @@
 //! What no clause says: that the calls which take memory succeed.
 
+ghost use Rattle.std.specs.Prelude.{◌<◌};
+
 use crate::command::{Answer, Command};
 use crate::ids::{ActId, EpId, GrantId, TileId};
 use crate::memory_ends::{BytesSink, BytesSource, SureSink, SureSource};

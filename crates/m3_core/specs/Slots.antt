@@ -83,9 +83,9 @@ abbrev pub fetching : Endpoint → Result (Option ℕ) Refusal
 fetching (Receives r) = unless_refused (is_closed r) (fetched_token r r.unread)
 fetching _ = Err Refusal.NoEndpoint
 
-abbrev pub fetched_at_once : Endpoint → Endpoint
-fetched_at_once (Receives r) = Receives (fetched_one r r.unread)
-fetched_at_once e = e
+abbrev pub after_fetch_at : Endpoint → Endpoint
+after_fetch_at (Receives r) = Receives (fetched_one r r.unread)
+after_fetch_at e = e
 
 abbrev pub acknowledging : ℕ → Endpoint → Result Header Refusal
 acknowledging token (Receives r) = header_unless (is_closed r) (unmarked (fetched_at token r.fetched))

@@ -4,6 +4,7 @@ use Rattle.std.specs.List.{list_all}
 use Rattle.m3_base.specs.declared.message.Header.{Header}
 use Rattle.m3_base.specs.Context.{Fetched, ReceiveRecord}
 use Rattle.m3_base.specs.Fits.{is_message}
+use Rattle.m3_endpoint.specs.declared.endpoint.Record.{Record}
 
 abbrev pub is_sound_fetched : Fetched → Bool
 is_sound_fetched f = is_message f.message
@@ -12,6 +13,11 @@ is_sound_fetched f = is_message f.message
 abbrev pub IsSoundIn : Option ReceiveRecord → Type 0
 IsSoundIn None = ⊥
 IsSoundIn (Some r) = (list_all is_message r.unread ≡ true) × (list_all is_sound_fetched r.fetched ≡ true)
+
+-- a receive record there is used, with sound messages
+abbrev pub IsSoundRecord : Record → Type 0
+IsSoundRecord (Record.Receive r) = IsSoundIn r
+IsSoundRecord e = Unit {0}
 
 -- the send grant is a grant's number
 abbrev pub HasSender : Header → Type 0

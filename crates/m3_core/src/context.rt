@@ -11,6 +11,7 @@ ghost use Rattle.m3_base.specs.Issue.{window, is_busy, next_id, launched};
 ghost use Rattle.m3_core.specs.FlyingView.{kind_of};
 ghost use Rattle.m3_base.specs.Fits.{is_form};
 ghost use Rattle.m3_endpoint.specs.Records.{endpoint_of};
+ghost use Rattle.m3_core.specs.Sound.{IsSoundRecord};
 ghost use Rattle.m3_core.specs.Slots.{oldest_at, fetched_message_at};
 
 use crate::flying::{Flying, Kind};
@@ -93,9 +94,11 @@ impl Context {
         self.flying.as_slice()
     }
 
-    /// The record of an endpoint.
+    /// The record of an endpoint. A receive record there is used, and each of its messages is in the ranges of a header
+    /// and has its header's length.
     pub fn endpoint(&self, ep: EpId) -> &Record
-        ensures { endpoint_of result.now ≡ endpoint self.now ep }
+        ensures same { endpoint_of result.now ≡ endpoint self.now ep }
+        ensures sound { IsSoundRecord result.now }
     {
         self.slots[ep.number() as usize].occupant()
     }

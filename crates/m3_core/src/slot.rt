@@ -6,6 +6,7 @@ ghost use Rattle.m3_base.specs.Issue.{live_receive};
 ghost use Rattle.m3_base.specs.Land.{grant_of, is_closing, has_live, closed_at};
 ghost use Rattle.m3_base.specs.Fits.{is_form, is_free};
 ghost use Rattle.m3_endpoint.specs.Records.{endpoint_of};
+ghost use Rattle.m3_core.specs.Sound.{IsSoundRecord};
 
 mod commands;
 mod packets;
@@ -70,7 +71,8 @@ impl Slot {
 
     /// Its record.
     pub fn occupant(&self) -> &Record
-        ensures { endpoint_of result.now ≡ self.now }
+        ensures same { endpoint_of result.now ≡ self.now }
+        ensures sound { IsSoundRecord result.now }
     {
         &self.occupant
     }

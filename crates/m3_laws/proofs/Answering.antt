@@ -16,10 +16,9 @@ use Rattle.m3_base.proofs.Keyed.{total-replaced, total-without, how_many-without
 use Rattle.m3_laws.proofs.Weights.{weight, context_weight, weight-one_more, owed-without_token, owed-with_mark, weight-credited}
 use Rattle.m3_laws.proofs.Issuing.{weight-with_endpoint}
 use Rattle.m3_laws.proofs.Landing.{EachAlike, SameBack, back_by_alike, alike-credited, credits_are, carries-put, how_many-agree}
-use Rattle.m3_laws.proofs.Standing.{StandsAt, IsBeingRepliedTo}
-use Rattle.m3_laws.proofs.Commands.{StandsBy}
 use Rattle.m3_laws.proofs.Moving.{Moved, credits_ended}
 use Rattle.m3_base.proofs.Names.{Apart, Distinct}
+use Rattle.m3_laws.specs.Stands.{IsBeingRepliedTo, StandsAt, StandsBy}
 
 -- what an answer gives back is what its endpoint gains
 pub weight-settled : (g : ℕ) (k : Kind) (t : ℕ) (answer : Answer) (e : Endpoint) → StandsAt k t e → weight g (settled k t answer e) ≡ weight g e + one (is_refusal answer && gives_back g k t e)

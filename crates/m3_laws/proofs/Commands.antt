@@ -15,7 +15,8 @@ use Rattle.m3_base.specs.Issue.{less_one, send, send_refusal, reply, reply_to, r
 use Rattle.m3_base.specs.Land.{flying_at}
 use Rattle.m3_base.specs.Credit.{gives_back, gives_back_by}
 use Rattle.m3_laws.proofs.Issuing.{in_range, some_is, came_through}
-use Rattle.m3_laws.proofs.Standing.{StandsAt, IsBeingRepliedTo, Safe, safe, safe-sends, safe-receives, fetched_at-push, fetched_at-without, fetched_at-mark, apart_tokens}
+use Rattle.m3_laws.proofs.Standing.{Safe, safe, safe-sends, safe-receives, fetched_at-push, fetched_at-without, fetched_at-mark, apart_tokens}
+use Rattle.m3_laws.specs.Stands.{IsBeingRepliedTo, StandsAt, StandsBy}
 
 abbrev pub EachSafe : List Endpoint → List Endpoint → Type 0
 EachSafe es ds = (i : ℕ) → Safe (get_or es i Free) (get_or ds i Free)
@@ -49,10 +50,6 @@ OwnBack c f p = ⊥
 abbrev pub NewPacket : Context → Context → Option Packet → Type 0
 NewPacket c d None = Unit {0}
 NewPacket c d (Some p) = (name_of p ≡ next_id c) × OwnBack d (flying_at c.next d.flying) p
-
-abbrev pub StandsBy : Context → Option Flying → Type 0
-StandsBy c None = Unit {0}
-StandsBy c (Some f) = StandsAt f.kind f.token (endpoint c f.ep)
 
 -- what an issue does
 pub record Does (c : Context) (i : Issued) : Type 0 where

@@ -8,7 +8,7 @@ use Rattle.m3_base.specs.Keyed.{find}
 use Rattle.m3_base.specs.Context.{Endpoint, Free, Sends, Receives, Reaches, Context, endpoint}
 use Rattle.m3_base.specs.Land.{has_closing}
 use Rattle.m3_base.specs.Steps.{number_of}
-use Rattle.m3_laws.proofs.Lawful.{is_at, form_of, face}
+use Rattle.m3_laws.specs.Lawful.{is_at, form_of, face}
 
 pub how_many-set : {X : Type 0} (p : X → Bool) (xs : List X) (i : ℕ) (y d : X) → i < length xs → how_many p (set xs i y) + one (p (get_or xs i d)) ≡ how_many p xs + one (p y)
 how_many-set p [] i y d h = absurd (omega arith)

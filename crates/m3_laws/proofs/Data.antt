@@ -14,15 +14,16 @@ use Rattle.m3_base.specs.Land.{joined, taken, with_credit, credited, one_more, l
 use Rattle.m3_base.specs.State.{Grant, context_of, put_context, same_act, grant_in}
 use Rattle.m3_base.specs.Credit.{gives_back, gives_back_by}
 use Rattle.m3_base.proofs.Names.{Apart}
-use Rattle.m3_laws.proofs.Standing.{StandsAt, Safe, safe, safe-free, safe-sends, safe-receives, safe-then}
-use Rattle.m3_laws.proofs.Commands.{StandsBy, EachSafe, each_safe, each-set}
-use Rattle.m3_laws.proofs.Moving.{Moved, moved, Stands, back_in_moved}
+use Rattle.m3_laws.proofs.Standing.{Safe, safe, safe-free, safe-sends, safe-receives, safe-then}
+use Rattle.m3_laws.proofs.Commands.{EachSafe, each_safe, each-set}
+use Rattle.m3_laws.proofs.Moving.{Moved, moved, back_in_moved}
 use Rattle.m3_laws.proofs.Landing.{SameBack}
 use Rattle.m3_laws.proofs.Sound.{found_after}
 use Rattle.m3_laws.proofs.Kept.{safe-credited}
-use Rattle.m3_laws.proofs.Lawful.{HolderIs, ChildOf, SentTo, AllSentTo, AllFetchedTo, QueueLawful, ContextLawful, PacketLawful, ActsDistinct, Data, CreditsLawful}
+use Rattle.m3_laws.specs.Lawful.{HolderIs, ChildOf, SentTo, AllSentTo, AllFetchedTo, QueueLawful, ContextLawful, PacketLawful, ActsDistinct, Data, CreditsLawful}
 use Rattle.m3_laws.specs.Laws.{is_open}
 use Rattle.m3_laws.proofs.Owners.{EachLawful, sent-push}
+use Rattle.m3_laws.specs.Stands.{Stands, StandsAt, StandsBy}
 
 -- ---- one context in place of another
 

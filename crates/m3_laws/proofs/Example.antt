@@ -5,7 +5,8 @@ use Rattle.m3_base.specs.declared.setup_line.SetupLine.{SetupLine}
 use Rattle.m3_base.specs.Credit.{credits}
 use Rattle.m3_base.specs.Opening.{opening}
 use Rattle.m3_base.specs.Rows.{delivery_setup}
-use Rattle.m3_laws.specs.Laws.{AllObey, empty}
+use Rattle.m3_base.specs.Obeys.{AllObey}
+use Rattle.m3_laws.specs.Laws.{empty}
 
 -- a setup of the worked rows obeys
 pub row_1_obeys : AllObey (empty 16) delivery_setup

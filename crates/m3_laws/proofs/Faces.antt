@@ -19,7 +19,7 @@ use Rattle.m3_base.proofs.Keyed.{how_many-inserted, how_many-without, how_many-r
 use Rattle.m3_laws.proofs.Issuing.{some_is, came_through}
 use Rattle.m3_base.proofs.Names.{Apart, Distinct, same_name-is, same_name-itself, flight-change, distinct-change, distinct-end, distinct-new}
 use Rattle.m3_laws.proofs.Kept.{found_ended}
-use Rattle.m3_laws.proofs.Lawful.{face, InstallLawful}
+use Rattle.m3_laws.specs.Lawful.{face, InstallLawful}
 use Rattle.m3_laws.specs.Laws.{installs, closes}
 use Rattle.m3_laws.proofs.Counts.{SameFaces, same_faces, faces_then, faces_set}
 use Rattle.m3_laws.proofs.Places.{SameOrders}

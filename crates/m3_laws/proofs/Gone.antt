@@ -11,7 +11,7 @@ use Rattle.m3_base.specs.Flight.{flight, same_name, name_of}
 use Rattle.m3_base.specs.Context.{Endpoint, Free, Sends, Receives, Reaches, Context, endpoint}
 use Rattle.m3_base.specs.Land.{land_refusal}
 use Rattle.m3_base.specs.State.{Standing, Live, Closing, Closed, Done, Grant, State, context_of, grant_in, parent_of, is_done}
-use Rattle.m3_laws.proofs.Lawful.{is_ready, open_at, sent_at, KeepsOpen, IsLawful, is_at}
+use Rattle.m3_laws.specs.Lawful.{is_ready, open_at, sent_at, KeepsOpen, IsLawful, is_at}
 use Rattle.m3_laws.specs.Laws.{installs, closes}
 use Rattle.m3_laws.specs.Laws.{is_open}
 use Rattle.m3_base.specs.Land.{sends_by}

@@ -16,8 +16,9 @@ use Rattle.m3_base.specs.State.{context_of}
 pub use Rattle.m3_laws.specs.Plain.{has_home, IsHome}
 use Rattle.m3_base.specs.Credit.{gives_back}
 use Rattle.m3_laws.proofs.Issuing.{in_range, some_is, came_through}
-use Rattle.m3_laws.proofs.Standing.{Safe, StandsAt}
+use Rattle.m3_laws.proofs.Standing.{Safe}
 use Rattle.m3_laws.proofs.Commands.{EachSafe, no_flags}
+use Rattle.m3_laws.specs.Stands.{StandsAt}
 
 -- a message that isn't a reply has its send grant at its sender
 abbrev pub HomeOf : List Context → Message → Type 0

@@ -15,7 +15,7 @@ use Rattle.m3_base.specs.Steps.{number_of}
 use Rattle.m3_base.specs.Credit.{carries, waiting, credits}
 use Rattle.m3_base.proofs.Names.{Apart, Distinct, same_name-itself, same_name-is}
 use Rattle.m3_laws.proofs.Landing.{credits_are, same_act-is, same_act-itself}
-use Rattle.m3_laws.proofs.Lawful.{is_at, open_at, form_of, Held, HeldAt, FormLawful, InstallLawful, ActsDistinct, Placed}
+use Rattle.m3_laws.specs.Lawful.{is_at, open_at, form_of, Held, HeldAt, FormLawful, InstallLawful, ActsDistinct, Placed}
 use Rattle.m3_laws.specs.Laws.{installs}
 use Rattle.m3_laws.specs.Laws.{is_open, limit_of}
 use Rattle.m3_laws.proofs.Counts.{one_found}
@@ -54,7 +54,7 @@ all_wait g n (p ∷ fs) h l = by_head (installs g p) refl (all_wait g n fs h.1)
 
 -- ---- the context that has the record
 
-found_lone : (F : Context → ℕ) (to : ℕ) (cs : List Context) → ActsDistinct cs → ((a : ℕ) (c : Context) → context_of a cs ≡ Some c → 1 ≤ F c → a ≡ to) → 1 ≤ total F cs → (x : Context) × ((context_of to cs ≡ Some x) × (1 ≤ F x))
+pub found_lone : (F : Context → ℕ) (to : ℕ) (cs : List Context) → ActsDistinct cs → ((a : ℕ) (c : Context) → context_of a cs ≡ Some c → 1 ≤ F c → a ≡ to) → 1 ≤ total F cs → (x : Context) × ((context_of to cs ≡ Some x) × (1 ≤ F x))
 found_lone F to [] d h l = absurd (omega (arith, l))
 found_lone F to (y ∷ ys) d h l = by_head (F y) refl (found_lone F to ys d.1)
   where
@@ -86,7 +86,7 @@ any_sends g (e ∷ es) h l = by_head (is_at g e) refl (any_sends g es (λ i. h (
     by_head false w ih = let z = ih (omega (arith, l, ap one w)) in grind (arith, z)
 
 -- an endpoint with a grant number has it in its form
-form_at : (g : ℕ) (e : Endpoint) → is_at g e ≡ true → (f : Fresh) × ((form_of e ≡ Some f) × ((number_of f ≡ g) × ((sends_by g e ≡ true) ⊎ (limit_of f ≡ 0))))
+pub form_at : (g : ℕ) (e : Endpoint) → is_at g e ≡ true → (f : Fresh) × ((form_of e ≡ Some f) × ((number_of f ≡ g) × ((sends_by g e ≡ true) ⊎ (limit_of f ≡ 0))))
 form_at g Free h = absurd (cc)
 form_at g (Sends r) h = (_, (refl, (grind (arith, nat_tests, h), inl h)))
 form_at g (Receives r) h = (_, (refl, (grind (arith, nat_tests, h), inr refl)))

@@ -19,7 +19,7 @@ use Rattle.m3_laws.proofs.Landing.{credits_are}
 use Rattle.m3_laws.proofs.Answering.{after_ending}
 use Rattle.m3_laws.proofs.Sound.{act_found}
 use Rattle.m3_laws.proofs.Kept.{found_ended}
-use Rattle.m3_laws.proofs.Lawful.{ChildOf, QueueLawful, ContextLawful, PacketLawful, Data, IsLawful, GrantsLawful}
+use Rattle.m3_laws.specs.Lawful.{ChildOf, QueueLawful, ContextLawful, PacketLawful, Data, IsLawful, GrantsLawful}
 use Rattle.m3_laws.proofs.Places.{faces_placed}
 use Rattle.m3_laws.proofs.Placing.{found_new}
 use Rattle.m3_laws.proofs.Faces.{IsData, orders_ended}
@@ -30,9 +30,8 @@ use Rattle.m3_base.specs.Issue.{Issued, issue, next_id}
 use Rattle.m3_base.specs.Land.{answered, settled, without_flying}
 use Rattle.m3_base.specs.Steps.{with_packet}
 use Rattle.m3_base.specs.Credit.{gives_back_by}
-use Rattle.m3_laws.proofs.Standing.{StandsAt}
-use Rattle.m3_laws.proofs.Commands.{StandsBy, NewPacket, OwnBack, Does, issue_does}
-use Rattle.m3_laws.proofs.Moving.{Moved, moved, Stands, credits_issued}
+use Rattle.m3_laws.proofs.Commands.{NewPacket, OwnBack, Does, issue_does}
+use Rattle.m3_laws.proofs.Moving.{Moved, moved, credits_issued}
 use Rattle.m3_laws.proofs.Issuing.{issue_keeps}
 use Rattle.m3_laws.proofs.Answering.{OnlyFlies, answered_moved, answer_keeps}
 use Rattle.m3_base.proofs.Names.{ended}
@@ -42,10 +41,11 @@ use Rattle.m3_base.specs.Grants.{send_form}
 use Rattle.m3_laws.proofs.Owners.{NewLawful, Owns, issue_owns, fetched-without, fetched-mark}
 use Rattle.m3_laws.proofs.Data.{packet_stays, acts_put, each_lawful_set}
 use Rattle.m3_laws.proofs.Faces.{issue_faces, answered_faces, orders_new}
-use Rattle.m3_laws.proofs.Lawful.{form_of, HeldAt, FormLawful}
+use Rattle.m3_laws.specs.Lawful.{form_of, HeldAt, FormLawful}
 use Rattle.m3_base.specs.declared.packet.Perm.{Perm}
 use Rattle.m3_base.specs.Grants.{part_form}
 use Rattle.m3_base.specs.Context.{Sending, Replying}
+use Rattle.m3_laws.specs.Stands.{Stands, StandsAt, StandsBy}
 
 -- ---- a context of which one command changes
 

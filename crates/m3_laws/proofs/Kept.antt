@@ -24,12 +24,13 @@ use Rattle.m3_base.specs.Credit.{gives_back_by, gives_back_in, carries, waiting,
 use Rattle.m3_base.proofs.Keyed.{find-replaced_other, find-replaced_same, total-replaced, how_many-replaced}
 use Rattle.m3_laws.proofs.Landing.{SameBack, same_back, same_back-taken, Known, after_landing, land_keeps, credits_are, same_act-itself}
 use Rattle.m3_base.proofs.Names.{Apart, Distinct, same_name-is, same_name-itself, same_name-turned, flight-change, apart-change, distinct-change, distinct-end, apart-end, ended}
-use Rattle.m3_laws.proofs.Standing.{Safe, StandsAt, safe, safe-sends, safe-receives, safe-then}
-use Rattle.m3_laws.proofs.Commands.{EachSafe, each_safe, each-set, StandsBy}
-use Rattle.m3_laws.proofs.Moving.{Moved, Stands}
+use Rattle.m3_laws.proofs.Standing.{Safe, safe, safe-sends, safe-receives, safe-then}
+use Rattle.m3_laws.proofs.Commands.{EachSafe, each_safe, each-set}
+use Rattle.m3_laws.proofs.Moving.{Moved}
 use Rattle.m3_laws.proofs.Answering.{after_ending, credit_keeps, answer_keeps, same_back-credit, OnlyFlies, answered_moved}
 use Rattle.m3_laws.proofs.Homes.{IsHome, has_home, HomeOf, QueueHome, EachHome, HomesStay, queue_home, home-push, each_set, any_safe, fetched-without, fetched-mark}
 use Rattle.m3_laws.proofs.Sound.{PacketOk, ContextOk, Sound, SendsStay, act_found, name_found, found_after, homes_stay, packet_stays, other_context, apart_found, issue_sound, issue_credits}
+use Rattle.m3_laws.specs.Stands.{Stands, StandsAt, StandsBy}
 
 -- ---- safe changes of a landing
 

@@ -20,7 +20,7 @@ use Rattle.m3_laws.proofs.Landing.{same_back, same_back-taken, weight-taken, cre
 use Rattle.m3_laws.proofs.Answering.{weight-with_credit, after_ending}
 use Rattle.m3_laws.proofs.Sound.{act_found, name_found}
 use Rattle.m3_laws.proofs.Kept.{found_ended}
-use Rattle.m3_laws.proofs.Lawful.{HolderIs, ContextLawful, PacketLawful, CreditsLawful, IsLawful}
+use Rattle.m3_laws.specs.Lawful.{HolderIs, ContextLawful, PacketLawful, CreditsLawful, IsLawful}
 use Rattle.m3_laws.proofs.Counts.{SameFaces, same_faces}
 use Rattle.m3_laws.proofs.Places.{faces_placed}
 use Rattle.m3_laws.proofs.Faces.{IsData, found_changed, orders_changed, orders_ended, taken_faces, credit_faces}

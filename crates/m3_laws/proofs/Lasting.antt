@@ -14,7 +14,7 @@ use Rattle.m3_base.specs.State.{Standing, Live, Closing, Closed, Done, Grant, St
 use Rattle.m3_base.specs.Grants.{form, make_refusal, may_close, close_sent, change_grant, kernel_id}
 use Rattle.m3_laws.proofs.Answering.{after_ending}
 use Rattle.m3_laws.proofs.Sound.{act_found}
-use Rattle.m3_laws.proofs.Lawful.{IsLawful}
+use Rattle.m3_laws.specs.Lawful.{IsLawful}
 use Rattle.m3_laws.proofs.Placing.{to_closed, to_done}
 use Rattle.m3_base.specs.declared.command.Command.{Command}
 use Rattle.m3_base.specs.declared.step.Step.{Step}
@@ -41,7 +41,7 @@ use Rattle.std.specs.Prelude.{◌==◌}
 use Rattle.std.proofs.lemmas.Bool.Decides.{nat_tests}
 use Rattle.m3_laws.specs.Laws.{is_open}
 use Rattle.m3_laws.proofs.Runs.{AllLawful, step_lawful}
-use Rattle.m3_laws.proofs.Lawful.{open_at}
+use Rattle.m3_laws.specs.Lawful.{open_at}
 use Rattle.m3_laws.proofs.Placing.{was_open}
 use Rattle.m3_base.specs.Steps.{make_for}
 

@@ -9,7 +9,6 @@ pub mod Homes
 pub mod Sound
 pub mod Kept
 pub mod OrderCredits
-pub mod Lawful
 pub mod Tree
 pub mod Ordering
 pub mod Counts
@@ -27,3 +26,10 @@ pub mod Opened
 pub mod Gone
 pub mod Example
 pub mod Lasting
+pub mod ProperSteps
+pub mod ProperIssue
+pub mod ProperLandings
+pub mod ProperOrders
+pub mod ProperRuns
+pub mod Invariants
+pub mod Fitting

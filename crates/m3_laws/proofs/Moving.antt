@@ -18,18 +18,16 @@ use Rattle.m3_base.proofs.Keyed.{total-replaced, total-inserted, total-without, 
 use Rattle.m3_laws.proofs.Weights.{context_weight}
 use Rattle.m3_laws.proofs.Issuing.{bears, packet_weight, Keeps, issue_keeps}
 use Rattle.m3_laws.proofs.Landing.{same_act-is, act_joins, same_act-itself}
-use Rattle.m3_laws.proofs.Standing.{StandsAt, Safe}
-use Rattle.m3_laws.proofs.Commands.{EachSafe, StandsBy, OwnBack, NewPacket, Does, issue_does}
+use Rattle.m3_laws.proofs.Standing.{Safe}
+use Rattle.m3_laws.proofs.Commands.{EachSafe, OwnBack, NewPacket, Does, issue_does}
 use Rattle.m3_base.proofs.Names.{Apart, Distinct, ended, same_name-is, same_name-turned}
+use Rattle.m3_laws.specs.Stands.{Stands, StandsAt, StandsBy}
 
 -- c becomes d, and only the flying command n may change
 pub record Moves (n : ℕ) (c d : Context) : Type 0 where
   pub act : d.act ≡ c.act
   pub each : EachSafe c.endpoints d.endpoints
   pub others : (k : ℕ) → k ≢ n → flying_at k d.flying ≡ flying_at k c.flying
-
-abbrev pub Stands : Context → Type 0
-Stands c = (k : ℕ) → StandsBy c (flying_at k c.flying)
 
 back_of : (g : ℕ) (c d : Context) → EachSafe c.endpoints d.endpoints → (o : Option Flying) → StandsBy c o → gives_back_by g d o ≡ gives_back_by g c o
 back_of g c d each None h = refl

@@ -18,7 +18,7 @@ use Rattle.m3_base.proofs.Names.{same_name-itself}
 use Rattle.m3_laws.proofs.Weights.{context_weight}
 use Rattle.m3_laws.proofs.Landing.{credits_are}
 use Rattle.m3_laws.proofs.Answering.{after_ending}
-use Rattle.m3_laws.proofs.Lawful.{open_at, sent_at, KeepsOpen, QueueLawful, ContextLawful, ActsDistinct, CreditsLawful, IsLawful, is_at}
+use Rattle.m3_laws.specs.Lawful.{open_at, sent_at, KeepsOpen, QueueLawful, ContextLawful, ActsDistinct, CreditsLawful, IsLawful, is_at}
 use Rattle.m3_laws.specs.Laws.{is_open}
 use Rattle.m3_laws.proofs.Tree.{grant_added}
 use Rattle.m3_laws.proofs.Data.{credits_keep}
@@ -31,8 +31,9 @@ use Rattle.m3_base.specs.Opening.{opening, with_line, with_lines, granted, insta
 use Rattle.m3_base.specs.Messages.{final}
 use Rattle.m3_base.proofs.Sorting.{find-new}
 use Rattle.m3_laws.proofs.Landing.{same_act-is}
-use Rattle.m3_laws.specs.Laws.{Obeys, AllObey, Declared, AllFit, CreditLaw, RecordLaw, ChildrenLaw, empty}
-use Rattle.m3_laws.proofs.Lawful.{FormLawful, form_of}
+use Rattle.m3_base.specs.Obeys.{Obeys, AllObey, Declared}
+use Rattle.m3_laws.specs.Laws.{AllFit, CreditLaw, RecordLaw, ChildrenLaw, empty}
+use Rattle.m3_laws.specs.Lawful.{FormLawful, form_of}
 use Rattle.m3_laws.proofs.Orders.{made_lawful, install_lawful}
 use Rattle.m3_laws.proofs.Runs.{run_lawful}
 use Rattle.m3_laws.proofs.Places.{record_open}
@@ -56,7 +57,7 @@ reset s fs k e z law =
 
 -- ---- a new activity
 
-find_inserted : (a : ℕ) (d : Context) (cs : List Context) → context_of d.act cs ≡ None → (x : Context) → context_of a (new_context_in d cs) ≡ Some x → ((a ≡ d.act) × (x ≡ d)) ⊎ (context_of a cs ≡ Some x)
+pub find_inserted : (a : ℕ) (d : Context) (cs : List Context) → context_of d.act cs ≡ None → (x : Context) → context_of a (new_context_in d cs) ≡ Some x → ((a ≡ d.act) × (x ≡ d)) ⊎ (context_of a cs ≡ Some x)
 find_inserted a d [] n x e = by_act (same_act a d.act) refl
   where
     by_act : (b : Bool) → same_act a d.act ≡ b → ((a ≡ d.act) × (x ≡ d)) ⊎ (context_of a [] ≡ Some x)
@@ -95,7 +96,7 @@ acts_inserted d (y ∷ ys) n h = by_order (nat_lt d.act y.act) (acts_inserted d 
     by_order true ih = (n, h)
     by_order false ih = (none_inserted y.act d ys apart h.0, ih)
 
-free_at : (n i : ℕ) → get_or (replicate n Free) i Free ≡ Free
+pub free_at : (n i : ℕ) → get_or (replicate n Free) i Free ≡ Free
 free_at zero i = refl
 free_at (suc n) zero = refl
 free_at (suc n) (suc i) = free_at n i
@@ -220,7 +221,7 @@ lines_early : (s : State) (ls : List SetupLine) → AllObey s ls → Early s →
 lines_early s [] o early = early
 lines_early s (l ∷ ls) o early = lines_early (with_line s l) ls o.1 (line_early s l o.0 early)
 
-no_grant : (g : ℕ) → grant_in [] g ≡ None
+pub no_grant : (g : ℕ) → grant_in [] g ≡ None
 no_grant g = grind (arith, nat_tests)
 
 empty_early : (memory : ℕ) → Early (empty memory)

@@ -8,7 +8,7 @@ use Rattle.m3_base.specs.declared.packet.Fresh.{Fresh}
 use Rattle.m3_base.specs.declared.order.GrantLine.{GrantLine}
 use Rattle.m3_base.specs.State.{Standing, Live, Closing, Closed, Done, Grant, parent_of, grant_in, parent_in, is_done, is_live, undone}
 use Rattle.m3_base.specs.Grants.{form, new_grant, to_closing, closing_where, or_false, marks_under, change_grant, rooted, revoked, may_close, is_closing_grant, is_open_child, is_above_closing}
-use Rattle.m3_laws.proofs.Lawful.{is_ready, KeepsOpen, IsAfter, GrantLawful, GrantsLawful}
+use Rattle.m3_laws.specs.Lawful.{is_ready, KeepsOpen, IsAfter, GrantLawful, GrantsLawful}
 use Rattle.m3_laws.specs.Laws.{is_open}
 use Rattle.m3_laws.proofs.Tree.{Changes, StillLawful, tree_kept, at_one, grant_changed, grant_added, grant_closing, grant_past}
 

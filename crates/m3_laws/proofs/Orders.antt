@@ -25,7 +25,7 @@ use Rattle.m3_laws.proofs.Answering.{after_ending}
 use Rattle.m3_laws.proofs.OrderCredits.{make_credits, close_credits, kernel_ended, install_weight, close_weight, free_weight}
 use Rattle.m3_laws.proofs.Sound.{act_found}
 use Rattle.m3_laws.proofs.Kept.{found_ended}
-use Rattle.m3_laws.proofs.Lawful.{is_ready, open_at, sent_at, KeepsOpen, HolderIs, ChildOf, AllSentTo, AllFetchedTo, QueueLawful, PacketLawful, Data, CreditsLawful, IsLawful, GrantsLawful}
+use Rattle.m3_laws.specs.Lawful.{is_ready, open_at, sent_at, KeepsOpen, HolderIs, ChildOf, AllSentTo, AllFetchedTo, QueueLawful, PacketLawful, Data, CreditsLawful, IsLawful, GrantsLawful}
 use Rattle.m3_laws.specs.Laws.{is_open, limit_of}
 use Rattle.m3_laws.proofs.Places.{install_free, install_inside, install_placed}
 use Rattle.m3_laws.proofs.Placing.{found_new, close_placed, closed_placed, was_sent, was_open, revoke_placed, done_placed, sent_placed, made_placed, form_number, none_past, to_closed, to_done, to_sent, to_root}

@@ -13,7 +13,7 @@ use Rattle.m3_base.specs.Land.{flying_at}
 use Rattle.m3_laws.proofs.Issuing.{some_is, came_through}
 use Rattle.m3_laws.proofs.Commands.{no_flags}
 use Rattle.m3_base.specs.State.{Grant, grant_in}
-use Rattle.m3_laws.proofs.Lawful.{HolderIs, ChildOf, SentTo, AllSentTo, AllFetchedTo, QueueLawful}
+use Rattle.m3_laws.specs.Lawful.{HolderIs, ChildOf, SentTo, AllSentTo, AllFetchedTo, QueueLawful}
 
 abbrev pub EachLawful : List Grant → List Endpoint → Type 0
 EachLawful gs es = (i : ℕ) → QueueLawful gs (get_or es i Free)

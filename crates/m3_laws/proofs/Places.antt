@@ -16,7 +16,7 @@ use Rattle.m3_laws.proofs.Landing.{same_act-is, act_joins, same_act-itself}
 use Rattle.m3_base.proofs.Names.{Distinct, distinct-end}
 use Rattle.m3_laws.proofs.Sound.{act_found, found_after}
 use Rattle.m3_laws.proofs.Kept.{found_ended}
-use Rattle.m3_laws.proofs.Lawful.{is_at, open_at, sent_at, form_of, HeldAt, FormLawful, at_of, InstallLawful, SlotsLawful, Placed}
+use Rattle.m3_laws.specs.Lawful.{is_at, open_at, sent_at, form_of, HeldAt, FormLawful, at_of, InstallLawful, SlotsLawful, Placed}
 use Rattle.m3_laws.specs.Laws.{installs, closes}
 use Rattle.m3_laws.specs.Laws.{is_open}
 use Rattle.m3_laws.proofs.Counts.{how_many-set, some_at, some_found, one_found, SameFaces, same_form, same_at, same_closing, same_cells, length-set', at_set}

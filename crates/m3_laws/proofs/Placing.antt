@@ -19,7 +19,7 @@ use Rattle.m3_base.proofs.Keyed.{total-replaced, how_many-inserted, how_many-wit
 use Rattle.m3_base.proofs.Names.{Apart, same_name-is, flight-new, distinct-new, distinct-end}
 use Rattle.m3_base.proofs.Sorting.{find-new}
 use Rattle.m3_laws.proofs.Kept.{found_ended}
-use Rattle.m3_laws.proofs.Lawful.{GrantsLawful, is_at, open_at, sent_at, form_of, HeldAt, FormLawful, at_of, InstallLawful, SlotsLawful, Placed}
+use Rattle.m3_laws.specs.Lawful.{GrantsLawful, is_at, open_at, sent_at, form_of, HeldAt, FormLawful, at_of, InstallLawful, SlotsLawful, Placed}
 use Rattle.m3_laws.specs.Laws.{installs, closes}
 use Rattle.m3_laws.specs.Laws.{is_open}
 use Rattle.m3_laws.proofs.Tree.{Changes, at_one, grant_changed, grant_added, grant_past}

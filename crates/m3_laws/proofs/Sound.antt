@@ -24,10 +24,11 @@ use Rattle.m3_laws.proofs.Issuing.{packet_weight, issue_keeps}
 use Rattle.m3_laws.proofs.Landing.{same_act-is, act_joins, same_act-itself, credits_are}
 use Rattle.m3_base.proofs.Names.{Apart, Distinct, same_name-is, same_name-itself, same_name-turned, flight-new, distinct-new}
 use Rattle.m3_base.proofs.Sorting.{find-new}
-use Rattle.m3_laws.proofs.Standing.{Safe, StandsAt}
-use Rattle.m3_laws.proofs.Commands.{EachSafe, StandsBy, OwnBack, NewPacket, Does, issue_does}
-use Rattle.m3_laws.proofs.Moving.{Moves, Moved, Stands, moved, back_in_moved, credits_issued}
+use Rattle.m3_laws.proofs.Standing.{Safe}
+use Rattle.m3_laws.proofs.Commands.{EachSafe, OwnBack, NewPacket, Does, issue_does}
+use Rattle.m3_laws.proofs.Moving.{Moves, Moved, moved, back_in_moved, credits_issued}
 use Rattle.m3_laws.proofs.Homes.{IsHome, has_home, HomeOf, QueueHome, EachHome, HomesStay, queue_home, any_safe, NewHome, Homes, issue_homes}
+use Rattle.m3_laws.specs.Stands.{Stands, StandsAt, StandsBy}
 
 abbrev pub PacketOk : List Context → Packet → Type 0
 PacketOk cs (Packet.Message to ep h m) =

@@ -11,19 +11,7 @@ use Rattle.m3_base.specs.Receive.{with_unread, with_fetched, fetched_at, unmarke
 use Rattle.m3_base.specs.Issue.{less_one, send, reply, fetch, acknowledge, read, write, unless, first_of, launched, Issued, issue}
 use Rattle.m3_base.specs.Land.{one_more, sends_by, more_at, credited, joined, taken, flying_at, without_flying}
 use Rattle.m3_base.specs.Credit.{gives_back, gives_back_by, is_through}
-
--- a message that was looked up is being replied to, and is no reply itself
-abbrev pub IsBeingRepliedTo : Option Fetched → Type 0
-IsBeingRepliedTo None = ⊥
-IsBeingRepliedTo (Some f) = (f.marked ≡ true) × (f.message.header.flags ≡ 0)
-
--- the record that a flying command of this kind and token needs
-abbrev pub StandsAt : Kind → ℕ → Endpoint → Type 0
-StandsAt Sending t (Sends r) = Unit {0}
-StandsAt Replying t (Receives r) = IsBeingRepliedTo (fetched_at t r.fetched)
-StandsAt Reading t (Reaches r) = Unit {0}
-StandsAt Writing t (Reaches r) = Unit {0}
-StandsAt k t e = ⊥
+use Rattle.m3_laws.specs.Stands.{IsBeingRepliedTo, StandsAt}
 
 -- e may become d: what stands at e stands at d, and gives the same back
 pub record Safe (e d : Endpoint) : Type 0 where

@@ -6,7 +6,7 @@ use Rattle.std.proofs.lemmas.Bool.Decides.{nat_tests}
 use Rattle.m3_base.specs.declared.order.GrantLine.{GrantLine}
 use Rattle.m3_base.specs.State.{Grant, parent_of, grant_in, parent_in, is_done, is_live}
 use Rattle.m3_base.specs.Grants.{form, to_closing, closing_where, or_false, change_grant, set_some}
-use Rattle.m3_laws.proofs.Lawful.{KeepsOpen, IsAfter, GrantLawful, GrantsLawful}
+use Rattle.m3_laws.specs.Lawful.{KeepsOpen, IsAfter, GrantLawful, GrantsLawful}
 use Rattle.m3_laws.specs.Laws.{is_open}
 
 -- ---- look-ups by number

@@ -13,8 +13,8 @@ use Rattle.m3_base.specs.Steps.{number_of}
 use Rattle.m3_base.specs.Context.{Context, endpoint}
 use Rattle.m3_base.specs.Land.{grant_of, is_grant, has_send, land_refusal}
 use Rattle.m3_base.specs.State.{Standing, Live, Closing, Grant, State, context_of, grant_in, holder, holder_ep, parent_of, is_done}
-use Rattle.m3_base.specs.Grants.{holds_at}
-use Rattle.m3_base.specs.Opening.{opening, with_line}
+use Rattle.m3_base.specs.Opening.{opening}
+use Rattle.m3_base.specs.Obeys.{AllObey}
 use Rattle.m3_base.specs.Messages.{final}
 use Rattle.m3_base.specs.Credit.{credits}
 
@@ -37,20 +37,6 @@ Fits t = Unit {0}
 abbrev pub AllFit : List Step → Type 0
 AllFit [] = Unit {0}
 AllFit (t ∷ ts) = Fits t × AllFit ts
-
--- the setup's rules that the laws need: new activities below 64, and grants of declared holders at endpoints of their own
-abbrev pub Declared : Option Context → Type 0
-Declared None = ⊥
-Declared (Some c) = Unit {0}
-
-abbrev pub Obeys : State → SetupLine → Type 0
-Obeys s (SetupLine.Act a t) = (context_of a s.contexts ≡ None) × (a < kernel)
-Obeys s (SetupLine.Grant line) = (holder_ep line < 16) × (Declared (context_of (holder line) s.contexts) × (list_any (holds_at (holder line) (holder_ep line)) s.grants ≡ false))
-Obeys s line = Unit {0}
-
-abbrev pub AllObey : State → List SetupLine → Type 0
-AllObey s [] = Unit {0}
-AllObey s (l ∷ ls) = Obeys s l × AllObey (with_line s l) ls
 
 -- each live or closing grant has its limit of credits (0 for a grant that is no send grant)
 abbrev pub CreditsAt : State → Type 0

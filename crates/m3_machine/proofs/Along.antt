@@ -1,32 +1,30 @@
 -- Along the lines of a setup, homes and contexts come side by side.
-use Rattle.std.proofs.Common.{◌≡◌, ◌≢◌, ℕ, zero, suc, ◌+◌, ◌-◌, ◌<◌, ◌≤◌, Bool, true, false, cond, List, [], ◌∷◌, ◌++◌, Some, None, refl, sym, subst, ◌∙◌, ap, arith, append_assoc, append-nil, set, get_or, length, map, replicate, Option, ◌⊎◌, inl, inr}
-use Rattle.std.specs.Prelude.{if◌then◌else◌, ◌==◌, not, ◌&&◌, ◌||◌, is_some, slice_get}
-use Rattle.std.specs.List.{list_all, list_any}
+use Rattle.std.proofs.Common.{◌≡◌, ℕ, ◌+◌, Bool, true, false, cond, List, [], ◌∷◌, ◌++◌, Some, None, refl, sym, subst, ◌∙◌, ap, arith, append-nil, length, map, replicate, Option, ◌⊎◌, inl, inr}
+use Rattle.std.specs.Prelude.{◌==◌}
+use Rattle.std.specs.List.{list_all}
 use Rattle.std.proofs.lemmas.Bool.Decides.{nat_tests}
 use Rattle.std.proofs.lemmas.List.{map-append}
 use Rattle.m3_base.specs.declared.order.GrantLine.{GrantLine}
 use Rattle.m3_base.specs.declared.packet.Fresh.{Fresh}
 use Rattle.m3_base.specs.declared.setup_line.SetupLine.{SetupLine}
-use Rattle.m3_base.specs.Keyed as keyed
 use Rattle.m3_base.specs.Context.{Free, Context, new_context, with_endpoint, opened}
-use Rattle.m3_base.specs.State.{State, Grant, context_of, new_context_in, put_context, same_act, holder, holder_ep, parent_of, parent_in, grant_in}
-use Rattle.m3_base.specs.Grants.{form, send_form, part_form, new_grant}
-use Rattle.m3_base.specs.Opening.{installed, granted, with_line, with_lines, opening}
-use Rattle.m3_base.specs.Obeys.{Declared, Obeys, AllObey}
+use Rattle.m3_base.specs.State.{State, context_of, new_context_in, put_context, holder, holder_ep, parent_of, parent_in}
+use Rattle.m3_base.specs.Grants.{form, new_grant}
+use Rattle.m3_base.specs.Opening.{installed, granted, with_line}
+use Rattle.m3_base.specs.Obeys.{Declared, Obeys}
 use Rattle.m3_merge.specs.Parts.{Each}
-use Rattle.m3_merge.proofs.Merged.{each_append, each_map}
-use Rattle.m3_machine.specs.Parts.{Home, Site, home_act, home_of}
-use Rattle.m3_machine.specs.Naming.{is_home, acts_in_form, names_at, is_named_context}
+use Rattle.m3_merge.proofs.Merged.{each_append}
+use Rattle.m3_machine.specs.Parts.{Home, Site}
+use Rattle.m3_machine.specs.Naming.{is_home, names_at, is_named_context}
 use Rattle.m3_machine.specs.Machine.{context_or_new}
 use Rattle.m3_machine.specs.At.{by_act}
 use Rattle.m3_machine.specs.Sound.{ActsApart, HomesApart, IsThere}
 use Rattle.m3_machine.proofs.Moved.{by_act-middle}
 use Rattle.m3_machine.proofs.Switching.{apart_add}
-use Rattle.m3_machine.proofs.Changed.{Swaps, swaps_state, swaps_apart, map-same}
+use Rattle.m3_machine.proofs.Changed.{Swaps, swaps_state, swaps_apart}
 use Rattle.m3_machine.proofs.Named.{all_set, opened_named}
-use Rattle.m3_machine.proofs.Closings.{numbered}
 use Rattle.m3_machine.proofs.Table.{found_new, found_beside, found_put, found_kept}
-use Rattle.m3_machine.proofs.Lines.{home_in, home_back, home_last, home_kept, homes_more, its_context, Has, its_is, acts_back, there_in, form_names, each_grant}
+use Rattle.m3_machine.proofs.Lines.{home_in, home_last, home_kept, homes_more, its_context, Has, acts_back, there_in, form_names, each_grant}
 
 -- how far the ideal opening has come: the homes that were declared, and the state
 pub record Along (h : Site) (s : State) (ds : List Home) : Type 0 where

@@ -1,19 +1,16 @@
 -- What an arrival keeps: the activity, the name of the packet, and which grants may be closed.
-use Rattle.std.proofs.Common.{◌≡◌, ◌≢◌, ℕ, zero, suc, ◌+◌, Bool, true, false, cond, List, [], ◌∷◌, ◌++◌, Some, None, refl, sym, subst, ◌∙◌, ap, arith, set, get_or, Option, ◌⊎◌, inl, inr}
-use Rattle.std.specs.Prelude.{if◌then◌else◌, ◌==◌, not, ◌&&◌, ◌||◌}
-use Rattle.std.proofs.lemmas.Bool.Decides.{nat_tests}
+use Rattle.std.proofs.Common.{◌≡◌, ℕ, Bool, true, false, cond, Some, None, refl, sym, ◌∙◌, ap, arith, Option, ◌⊎◌, inl, inr}
+use Rattle.std.specs.Prelude.{if◌then◌else◌, ◌==◌, not, ◌&&◌}
 use Rattle.m3_base.specs.declared.ids.FlightId.{FlightId}
 use Rattle.m3_base.specs.declared.message.Message.{Message}
 use Rattle.m3_base.specs.declared.command.Answer.{Answer}
 use Rattle.m3_base.specs.declared.command.Refusal.{Refusal}
 use Rattle.m3_base.specs.declared.packet.Packet.{Packet}
-use Rattle.m3_base.specs.Flight.{name_of, flight}
-use Rattle.m3_base.specs.Context.{Kind, Sending, Replying, Reading, Writing, Flying, Endpoint, Free, Sends, Receives, Reaches, Context, endpoint, with_endpoint}
-use Rattle.m3_base.specs.Land.{land, land_by, land_refusal, message_id, taken, with_credit, grant_of, is_closing, is_grant, has_live, has_closing, closed_at, flies_at, flying_at, settled, answered, frees, joined}
-use Rattle.m3_base.specs.State.{Grant, State, context_of, grant_in}
+use Rattle.m3_base.specs.Flight.{name_of}
+use Rattle.m3_base.specs.Context.{Kind, Flying, Endpoint, Context, endpoint, with_endpoint}
+use Rattle.m3_base.specs.Land.{land_by, land_refusal, message_id, taken, with_credit, grant_of, is_closing, is_grant, has_live, has_closing, closed_at, flies_at, flying_at, settled, answered, frees, joined}
 use Rattle.m3_base.specs.Arrive.{Arrived, arrive, close_arrives, answer_arrives, settles}
 use Rattle.m3_base.specs.Places.{target}
-use Rattle.m3_machine.specs.Sound.{is_open, HeldThere}
 use Rattle.m3_machine.proofs.Arriving.{set_there, set_grant, settled_grant, live_grant}
 
 -- an answer has the packet's name, and goes to whoever's that is

@@ -1,6 +1,6 @@
 -- Which grants of the ideal state are closed: those whose Closed is on a link.
-use Rattle.std.proofs.Common.{◌≡◌, ◌≢◌, ℕ, zero, suc, ◌+◌, ◌-◌, ◌<◌, ◌≤◌, Bool, true, false, cond, List, [], ◌∷◌, ◌++◌, Some, None, refl, sym, subst, ◌∙◌, ap, arith, set, get_or, Option}
-use Rattle.std.specs.Prelude.{if◌then◌else◌, ◌==◌, not, ◌&&◌, ◌||◌, slice_get}
+use Rattle.std.proofs.Common.{◌≡◌, ℕ, zero, suc, ◌+◌, ◌-◌, ◌<◌, Bool, true, false, List, [], ◌∷◌, ◌++◌, Some, None, refl, sym, subst, ◌∙◌, ap, arith, set}
+use Rattle.std.specs.Prelude.{◌==◌, ◌||◌, slice_get}
 use Rattle.std.proofs.lemmas.Bool.Decides.{nat_tests}
 use Rattle.m3_base.specs.State.{Standing, Grant, grant_in}
 use Rattle.m3_base.specs.State as ideal
@@ -19,7 +19,7 @@ in_inserts g n xs ys h = ap (λ l. is_in l n) h.whole ∙ in_front g n h.front h
 
 -- ---- by places from 0
 
-closed_later : (xs ys : List ℕ) (g n : ℕ) (gs : List Grant) → ((k : ℕ) → is_in ys k ≡ (g == k) || is_in xs k) → g < n → closed_from n ys gs ≡ closed_from n xs gs
+pub closed_later : (xs ys : List ℕ) (g n : ℕ) (gs : List Grant) → ((k : ℕ) → is_in ys k ≡ (g == k) || is_in xs k) → g < n → closed_from n ys gs ≡ closed_from n xs gs
 closed_later xs ys g n [] e less = refl
 closed_later xs ys g n (x ∷ gs) e less =
     let other : is_in ys n ≡ is_in xs n = e n ∙ ap (λ b. b || is_in xs n) (let d : (g == n) ≡ false = grind (arith, nat_tests, less) in d) in

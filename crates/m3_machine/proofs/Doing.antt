@@ -1,8 +1,8 @@
 -- An activity that is current, or isn't, makes a command: the whole event.
-use Rattle.std.proofs.Common.{◌≡◌, ◌≢◌, ℕ, zero, suc, ◌+◌, ◌*◌, ◌<◌, ◌≤◌, Bool, true, false, cond, List, [], ◌∷◌, ◌++◌, Some, None, refl, sym, subst, ◌∙◌, ap, arith, set, get_or, length, map, Option, ◌⊎◌, inl, inr}
-use Rattle.std.specs.Prelude.{if◌then◌else◌, ◌==◌, nat_lt, not, ◌&&◌, ◌||◌, is_some}
+use Rattle.std.proofs.Common.{◌≡◌, ℕ, ◌<◌, ◌≤◌, Bool, true, false, cond, List, [], ◌∷◌, Some, None, refl, sym, subst, ◌∙◌, ap, arith, length, Option, inr}
+use Rattle.std.specs.Prelude.{◌==◌, not, ◌&&◌}
 use Rattle.std.proofs.lemmas.Bool.Decides.{nat_tests}
-use Rattle.std.proofs.lemmas.List.{map-set, get_or-map, set-get_or}
+use Rattle.std.proofs.lemmas.List.{get_or-map, set-get_or}
 use Rattle.m3_base.specs.declared.ids.FlightId.{FlightId}
 use Rattle.m3_base.specs.declared.command.Command.{Command}
 use Rattle.m3_base.specs.declared.packet.Packet.{Packet}
@@ -11,24 +11,24 @@ use Rattle.m3_base.specs.declared.event.Made.{Made}
 use Rattle.m3_base.specs.declared.event.Said.{Said}
 use Rattle.m3_base.specs.declared.event.IdleWhy.{IdleWhy}
 use Rattle.m3_base.specs.declared.step.Step.{Step}
-use Rattle.m3_base.specs.Flight.{name_of, same_name, name_before, flight, new_flight}
+use Rattle.m3_base.specs.Flight.{name_of, same_name, flight, new_flight}
 use Rattle.m3_base.specs.Context.{Context}
-use Rattle.m3_base.specs.Issue.{Told, Issued, issue, next_id, is_busy, flies_always}
+use Rattle.m3_base.specs.Issue.{Issued, issue, next_id, is_busy, flies_always}
 use Rattle.m3_base.specs.State.{State, context_of, put_context}
-use Rattle.m3_base.specs.Steps.{Word, At_issue, Ran, irun, on_from, with_packet, issue_in, issued_in, then_say}
-use Rattle.m3_base.specs.Entries.{shown_told, said_of}
+use Rattle.m3_base.specs.Steps.{At_issue, irun, on_from, with_packet, issue_in, issued_in}
+use Rattle.m3_base.specs.Entries.{shown_told}
 use Rattle.m3_base.specs.Places as places
 use Rattle.m3_base.specs.Places.{Places, pstep, target, is_some_of, is_current, next_id_of, push_new, command_by, busy_with, said_or_nothing}
 use Rattle.m3_base.proofs.Sorting.{find-new}
-use Rattle.m3_machine.specs.Parts.{Site, Home, home_of, tile_of, tile_for, Parcel, Data, Tile, is_idle, says}
+use Rattle.m3_machine.specs.Parts.{Site, tile_of, tile_for, Data, Tile, is_idle}
 use Rattle.m3_machine.specs.Naming.{is_home, is_named, is_named_context}
-use Rattle.m3_machine.specs.Tile.{act_in, stay_of, with_current, tile_do, do_at, do_issued, new_out}
-use Rattle.m3_machine.specs.Machine.{Machine, Is_kernel, Is_memory, Is_tile, empty_tile, tile_at, with_part, pushed, pushed_all, mstep, done_by, of_tile, part_step, part_at}
-use Rattle.m3_machine.specs.At.{all_packets, by_name, at, token, current_act, places_of}
+use Rattle.m3_machine.specs.Tile.{act_in, stay_of, with_current, do_at, do_issued, new_out}
+use Rattle.m3_machine.specs.Machine.{Machine, Is_kernel, Is_memory, Is_tile, empty_tile, tile_at, with_part, pushed_all, mstep, done_by, of_tile, part_step}
+use Rattle.m3_machine.specs.At.{all_packets, by_name, at, current_act, places_of}
 use Rattle.m3_machine.specs.Sound.{GoesTo, Hypotheses, IsSound}
-use Rattle.m3_machine.specs.Refines.{as_places, Refined}
+use Rattle.m3_machine.specs.Refines.{Refined}
 use Rattle.m3_machine.proofs.Pushed.{longer_places, walks_elsewhere, sending_state, sending_sound}
-use Rattle.m3_machine.proofs.Changed.{Alike, alike-itself}
+use Rattle.m3_machine.proofs.Changed.{alike-itself}
 use Rattle.m3_machine.proofs.Running.{running_state, running_places, running_sound}
 use Rattle.m3_machine.proofs.Emitting.{home_tile, home_is, named_target, Emits}
 use Rattle.m3_machine.proofs.Landing.{current_found, current_each}

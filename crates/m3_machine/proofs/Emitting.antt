@@ -1,13 +1,11 @@
 -- What is emitted where a packet arrived: the answer, and the Closed of a grant.
-use Rattle.std.proofs.Common.{◌≡◌, ◌≢◌, ℕ, zero, suc, ◌+◌, ◌*◌, ◌<◌, ◌≤◌, Bool, true, false, cond, List, [], ◌∷◌, ◌++◌, Some, None, refl, sym, subst, ◌∙◌, ap, arith, set, get_or, length, map, Option, ◌⊎◌, inl, inr}
-use Rattle.std.specs.Prelude.{if◌then◌else◌, ◌==◌, not, ◌&&◌, ◌||◌, is_some}
-use Rattle.std.proofs.lemmas.Bool.Decides.{nat_tests}
+use Rattle.std.proofs.Common.{◌≡◌, ℕ, ◌<◌, ◌≤◌, Bool, true, false, cond, List, [], ◌∷◌, ◌++◌, Some, None, refl, sym, subst, ◌∙◌, ap, arith, map, Option, inr}
+use Rattle.std.specs.Prelude.{◌==◌, is_some}
 use Rattle.m3_base.specs.declared.ids.FlightId.{FlightId}
 use Rattle.m3_base.specs.declared.packet.Packet.{Packet}
 use Rattle.m3_base.specs.Keyed as keyed
-use Rattle.m3_base.specs.Flight.{name_of, flight, new_flight}
-use Rattle.m3_base.specs.State.{Grant, State, grant_in, is_done, same_act}
-use Rattle.m3_base.specs.State as ideal
+use Rattle.m3_base.specs.Flight.{name_of, flight}
+use Rattle.m3_base.specs.State.{Grant, grant_in, same_act}
 use Rattle.m3_base.specs.Steps.{with_packet}
 use Rattle.m3_base.specs.Places as places
 use Rattle.m3_base.specs.Places.{Places, Actor, target, home_in, actor_act, same_actor, push_answer, push_closed}
@@ -15,7 +13,7 @@ use Rattle.m3_machine.specs.Parts.{Home, Site, home_act, home_of, tile_in, tile_
 use Rattle.m3_machine.specs.Naming.{is_home, is_named}
 use Rattle.m3_machine.specs.Kernel.{is_under_close}
 use Rattle.m3_machine.specs.Machine.{Machine, pushed, pushed_all}
-use Rattle.m3_machine.specs.At.{all_packets, all_closed, closed_from, at, token, actor_in, places_of}
+use Rattle.m3_machine.specs.At.{all_packets, all_closed, at, actor_in, places_of}
 use Rattle.m3_machine.specs.Sound.{IsSetup, GoesTo, IsShut, is_open, IsSound}
 use Rattle.m3_machine.proofs.Pushed.{longer_places, walks_elsewhere, sending_state, sending_sound, telling_state, telling_sound, telling_closed}
 use Rattle.m3_machine.proofs.Arriving.{grants_after, name_in}
@@ -97,7 +95,7 @@ module _ (h : Site) (t : ℕ) (low : 1 ≤ t) (ht : t < 16) where
         places = longer_places h m t u ht hu (Data q) sound.links ∙ ap (λ n. places.pushed t n (places.Data (name_of q)) (places_of h m)) to;
       }
 
-  under_close : (x : Grant) → is_open x.standing ≡ true → x.close_sent ≡ true → is_under_close x ≡ true
+  pub under_close : (x : Grant) → is_open x.standing ≡ true → x.close_sent ≡ true → is_under_close x ≡ true
   under_close x o e = grind (arith, o, e)
 
   pub emit_closed : (m : Machine) → IsSound h m → (o : Option ℕ) → ShutsIf (at m).grants o

@@ -1,5 +1,5 @@
 -- A take from an empty link changes nothing.
-use Rattle.std.proofs.Common.{◌≡◌, ℕ, ◌+◌, ◌*◌, ◌<◌, Bool, true, false, cond, List, [], ◌∷◌, Some, None, refl, sym, subst, ◌∙◌, ap, arith, set, get_or, length, map, Option}
+use Rattle.std.proofs.Common.{◌≡◌, ℕ, ◌+◌, ◌*◌, ◌<◌, Bool, true, false, cond, [], Some, None, refl, sym, subst, ◌∙◌, ap, set, map, Option}
 use Rattle.std.specs.Prelude.{◌==◌}
 use Rattle.std.proofs.lemmas.List.{get_or-map, set-get_or}
 use Rattle.m3_base.specs.declared.event.Event.{Event}
@@ -8,7 +8,7 @@ use Rattle.m3_base.specs.declared.event.Said.{Said}
 use Rattle.m3_base.specs.declared.event.IdleWhy.{IdleWhy}
 use Rattle.m3_base.specs.Places as places
 use Rattle.m3_base.specs.Places.{pstep}
-use Rattle.m3_machine.specs.Parts.{Site, Parcel, is_idle}
+use Rattle.m3_machine.specs.Parts.{Site, is_idle}
 use Rattle.m3_machine.specs.Machine.{Machine, Part, Is_kernel, Is_memory, Is_tile, empty_tile, tile_at, link_at, with_link, with_part, part_at, part_step, mstep, done_by, front, rest, Did}
 use Rattle.m3_machine.specs.At.{at, token, places_of}
 use Rattle.m3_machine.specs.Sound.{IsSound}

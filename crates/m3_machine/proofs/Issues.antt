@@ -1,22 +1,18 @@
 -- An activity makes a command.
-use Rattle.std.proofs.Common.{◌≡◌, ◌≢◌, ℕ, zero, suc, ◌+◌, ◌*◌, ◌<◌, ◌≤◌, Bool, true, false, cond, List, [], ◌∷◌, ◌++◌, Some, None, refl, sym, subst, ◌∙◌, ap, arith, set, get_or, length, map, replicate, Option, ◌⊎◌, inl, inr}
-use Rattle.std.specs.Prelude.{if◌then◌else◌, ◌==◌, nat_lt, not, ◌&&◌, ◌||◌, is_some}
+use Rattle.std.proofs.Common.{◌≡◌, ℕ, ◌+◌, Bool, true, false, cond, List, [], ◌∷◌, ◌++◌, Some, None, refl, arith, set, length, replicate, Option}
+use Rattle.std.specs.Prelude.{◌==◌, ◌&&◌}
 use Rattle.std.specs.List.{list_all}
-use Rattle.std.proofs.lemmas.Bool.Decides.{nat_tests}
-use Rattle.m3_base.specs.declared.ids.FlightId.{FlightId}
 use Rattle.m3_base.specs.declared.message.Message.{Message}
 use Rattle.m3_base.specs.declared.command.Command.{Command}
-use Rattle.m3_base.specs.declared.command.Reply.{Reply}
 use Rattle.m3_base.specs.declared.command.Refusal.{Refusal}
 use Rattle.m3_base.specs.declared.packet.Packet.{Packet}
-use Rattle.m3_base.specs.Flight.{name_of, flight}
-use Rattle.m3_base.specs.Context.{Kind, Sending, Replying, Reading, Writing, Flying, SendRecord, Fetched, ReceiveRecord, MemoryRecord, Endpoint, Free, Sends, Receives, Reaches, Context, endpoint, with_endpoint}
+use Rattle.m3_base.specs.Flight.{name_of}
+use Rattle.m3_base.specs.Context.{Sending, Reading, Writing, Fetched, ReceiveRecord, Endpoint, Free, Sends, Receives, Reaches, Context, endpoint, with_endpoint}
 use Rattle.m3_base.specs.Receive.{with_fetched, fetched_at, unmarked, without_token, with_mark, freed, marking}
-use Rattle.m3_base.specs.Issue.{Told, Gives, Flies, Issued, first_of, gives, unless, next_id, launched, send_packet, send_refusal, less_one, send, reply_refusal, reply_packet, reply_to, reply, fetch_from, fetch, acknowledged, acknowledge_at, acknowledge, access, access_refusal, read, write, may_read, may_write, is_busy, unless_busy, flies_always, issue, wrong_kind}
-use Rattle.m3_base.specs.Places.{target}
+use Rattle.m3_base.specs.Issue.{Flies, Issued, first_of, unless, next_id, launched, send_packet, send_refusal, less_one, send, reply_refusal, reply_to, reply, fetch_from, fetch, acknowledged, acknowledge_at, acknowledge, access, access_refusal, read, write, may_read, may_write, is_busy, flies_always, issue}
 use Rattle.m3_machine.specs.Parts.{Site}
 use Rattle.m3_machine.specs.Naming.{is_home, is_named, is_from_home, is_fetched_from_home, names_at, is_named_context}
-use Rattle.m3_machine.proofs.Named.{NamedIf, all_get, all_set, fetched_more, fetched_less, fetched_marked}
+use Rattle.m3_machine.proofs.Named.{all_get, all_set, fetched_more, fetched_less, fetched_marked}
 
 -- a new packet has the next name, and goes to the memory or to an activity
 abbrev pub NewOk : Site → Context → Option Packet → Type 0

@@ -1,45 +1,36 @@
 -- A tile takes data for its current activity: the whole event.
-use Rattle.std.proofs.Common.{◌≡◌, ◌≢◌, ℕ, zero, suc, ◌+◌, ◌*◌, ◌<◌, ◌≤◌, Bool, true, false, cond, List, [], ◌∷◌, ◌++◌, Some, None, refl, sym, subst, ◌∙◌, ap, arith, append_assoc, set, get_or, length, map, Option, ◌⊎◌, inl, inr}
-use Rattle.std.specs.Prelude.{if◌then◌else◌, ◌==◌, not, ◌&&◌, ◌||◌, is_some}
+use Rattle.std.proofs.Common.{◌≡◌, ℕ, ◌+◌, ◌*◌, ◌<◌, ◌≤◌, true, false, cond, List, [], ◌∷◌, ◌++◌, Some, None, refl, sym, subst, ◌∙◌, ap, arith, length, map, Option, ◌⊎◌, inl, inr}
+use Rattle.std.specs.Prelude.{◌==◌, ◌||◌}
 use Rattle.std.proofs.lemmas.Bool.Decides.{nat_tests}
-use Rattle.std.proofs.lemmas.List.{map-set, get_or-map}
+use Rattle.std.proofs.lemmas.List.{get_or-map}
 use Rattle.m3_base.specs.declared.ids.FlightId.{FlightId}
-use Rattle.m3_base.specs.declared.command.Answer.{Answer}
 use Rattle.m3_base.specs.declared.packet.Packet.{Packet}
 use Rattle.m3_base.specs.declared.event.Event.{Event}
 use Rattle.m3_base.specs.declared.event.Said.{Said}
-use Rattle.m3_base.specs.Keyed as keyed
-use Rattle.m3_base.specs.Flight.{name_of, flight, new_flight}
-use Rattle.m3_base.specs.Context.{Flying, Context, endpoint, with_endpoint}
-use Rattle.m3_base.specs.Land.{grant_of, closed_at, has_live, has_closing, flies_at, flying_at, frees, answered}
-use Rattle.m3_base.specs.State.{Grant, State, grant_in, context_of, put_context, same_act}
+use Rattle.m3_base.specs.Flight.{name_of, flight}
+use Rattle.m3_base.specs.Context.{Context, endpoint}
+use Rattle.m3_base.specs.Land.{has_closing}
+use Rattle.m3_base.specs.State.{State, context_of, put_context}
 use Rattle.m3_base.specs.Steps.{with_packet}
-use Rattle.m3_base.specs.Arrive.{Arrived, arrive, close_arrives, answer_arrives, settles}
-use Rattle.m3_base.specs.Fits.{fits, fits_answer}
+use Rattle.m3_base.specs.Arrive.{Arrived, arrive}
+use Rattle.m3_base.specs.Fits.{fits}
 use Rattle.m3_base.specs.Places as places
 use Rattle.m3_base.specs.Places.{Places, pstep, target, target_of, is_here, came, push_answer, push_closed}
-use Rattle.m3_base.proofs.Keyed.{find-replaced_other, find-replaced_same}
-use Rattle.m3_merge.specs.Parts.{Each}
-use Rattle.m3_merge.proofs.Stamps.{each_back}
-use Rattle.m3_machine.specs.Parts.{Site, Home, tile_of, Heard, heard_of, Parcel, Data, Stay, Tile, data_out, closed_out, answer_tile, says, dropped}
-use Rattle.m3_machine.specs.Naming.{is_home, is_named, is_named_context}
-use Rattle.m3_machine.specs.Tile.{stay_act, stay_of, with_stay, with_current, hearing, hears_all, heard_by, take_arrived, take_here, take_data, tile_take, act_in, arrive_named}
+use Rattle.m3_machine.specs.Parts.{Site, heard_of, Parcel, Data, Tile, data_out, closed_out, answer_tile, says}
+use Rattle.m3_machine.specs.Naming.{is_named, is_named_context}
+use Rattle.m3_machine.specs.Tile.{stay_of, with_current, heard_by, take_arrived, take_here, act_in}
 use Rattle.m3_machine.specs.Machine.{Machine, Is_tile, empty_tile, tile_at, link_at, with_link, with_part, pushed_all, mstep, done_by, of_tile}
-use Rattle.m3_machine.specs.At.{each, on_links, as_list, here, away, contexts_in, all_contexts, all_packets, all_closed, at, token, current_act, places_of}
+use Rattle.m3_machine.specs.At.{at, token, current_act, places_of}
 use Rattle.m3_machine.specs.Sound.{IsThere, HeldThere, Hypotheses, IsSound}
-use Rattle.m3_machine.specs.Refines.{as_places, Refined}
-use Rattle.m3_machine.proofs.Inserts.{Inserts, around_set}
-use Rattle.m3_machine.proofs.Moved.{length-set}
-use Rattle.m3_machine.proofs.Switching.{apart_inserts}
-use Rattle.m3_machine.proofs.Saving.{context_at}
+use Rattle.m3_machine.specs.Refines.{Refined}
 use Rattle.m3_machine.proofs.Bouncing.{take_step}
 use Rattle.m3_machine.proofs.Sets.{is_link}
 use Rattle.m3_machine.proofs.Popped.{popped_absent, popped_apart, popped_flights, popped_flies, popped_state, popped_places, popped_ok, popped_sound}
-use Rattle.m3_machine.proofs.Changed.{Alike, alike-itself, SameStay}
+use Rattle.m3_machine.proofs.Changed.{Alike}
 use Rattle.m3_machine.proofs.Running.{running_state, running_places, running_sound}
 use Rattle.m3_machine.proofs.Arriving.{after_arrival, came_as, name_in, grants_after, ComesAs, arrives_as}
-use Rattle.m3_machine.proofs.Arrivals.{AnswerOk, FreedBy, KeptBy, arrive_keeps}
-use Rattle.m3_machine.proofs.Named.{NamedIf, NamedBy, arrive_names}
+use Rattle.m3_machine.proofs.Arrivals.{FreedBy, KeptBy, arrive_keeps}
+use Rattle.m3_machine.proofs.Named.{NamedBy, arrive_names}
 use Rattle.m3_machine.proofs.Emitting.{ShutsIf, Shuts, Emits, emit_both}
 use Rattle.m3_machine.proofs.Landing.{current_found, current_each, heard_current, heard_tile, heard_alike, fits_arrives}
 

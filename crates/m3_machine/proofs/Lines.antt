@@ -1,31 +1,22 @@
 -- The ideal machine at opening, along the lines of a setup: each home has its context, and all names are of homes.
-use Rattle.std.proofs.Common.{◌≡◌, ◌≢◌, ℕ, zero, suc, ◌+◌, ◌-◌, ◌<◌, ◌≤◌, Bool, true, false, cond, List, [], ◌∷◌, ◌++◌, Some, None, refl, sym, subst, ◌∙◌, ap, arith, append_assoc, append-nil, set, get_or, length, map, replicate, Option, ◌⊎◌, inl, inr}
-use Rattle.std.specs.Prelude.{if◌then◌else◌, ◌==◌, not, ◌&&◌, ◌||◌, is_some, slice_get}
-use Rattle.std.specs.List.{list_all, list_any}
+use Rattle.std.proofs.Common.{◌≡◌, ℕ, zero, suc, Bool, true, false, cond, List, [], ◌∷◌, ◌++◌, Some, None, refl, subst, ap, arith, length, Option, ◌⊎◌, inl, inr}
+use Rattle.std.specs.Prelude.{◌==◌, slice_get}
+use Rattle.std.specs.List.{list_all}
 use Rattle.std.proofs.lemmas.Bool.Decides.{nat_tests}
-use Rattle.std.proofs.lemmas.List.{map-append}
 use Rattle.m3_base.specs.declared.order.GrantLine.{GrantLine}
 use Rattle.m3_base.specs.declared.packet.Fresh.{Fresh}
-use Rattle.m3_base.specs.declared.setup_line.SetupLine.{SetupLine}
 use Rattle.m3_base.specs.Keyed as keyed
-use Rattle.m3_base.specs.Context.{Free, Context, new_context, with_endpoint, opened}
-use Rattle.m3_base.specs.State.{State, Grant, context_of, new_context_in, put_context, same_act, holder, holder_ep, parent_of, parent_in, grant_in}
-use Rattle.m3_base.specs.Grants.{form, send_form, part_form, new_grant}
-use Rattle.m3_base.specs.Opening.{installed, granted, with_line, with_lines, opening}
-use Rattle.m3_base.specs.Obeys.{Declared, Obeys, AllObey}
+use Rattle.m3_base.specs.Context.{Context}
+use Rattle.m3_base.specs.State.{Grant, context_of, new_context_in, same_act, holder, parent_in}
+use Rattle.m3_base.specs.Grants.{form, send_form, part_form}
 use Rattle.m3_merge.specs.Parts.{Each}
-use Rattle.m3_merge.proofs.Merged.{each_append, each_map}
-use Rattle.m3_machine.specs.Parts.{Home, Site, home_act, home_of}
-use Rattle.m3_machine.specs.Naming.{is_home, acts_in_form, names_at, is_named_context}
+use Rattle.m3_machine.specs.Parts.{Home, Site, home_act}
+use Rattle.m3_machine.specs.Naming.{is_home, acts_in_form}
 use Rattle.m3_machine.specs.Machine.{context_or_new}
 use Rattle.m3_machine.specs.At.{by_act}
-use Rattle.m3_machine.specs.Sound.{ActsApart, HomesApart, IsThere}
-use Rattle.m3_machine.proofs.Moved.{by_act-middle}
-use Rattle.m3_machine.proofs.Switching.{apart_add}
-use Rattle.m3_machine.proofs.Changed.{Swaps, swaps_state, swaps_apart, map-same}
-use Rattle.m3_machine.proofs.Named.{all_set, opened_named}
+use Rattle.m3_machine.specs.Sound.{HomesApart, IsThere}
 use Rattle.m3_machine.proofs.Closings.{numbered}
-use Rattle.m3_machine.proofs.Table.{found_new, found_beside, found_put, found_kept}
+use Rattle.m3_machine.proofs.Table.{found_beside}
 
 -- ---- homes by activity
 

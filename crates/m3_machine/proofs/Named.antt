@@ -1,23 +1,19 @@
 -- What arrives, and what is issued, names activities of the setup alone where the context and the packet do.
-use Rattle.std.proofs.Common.{◌≡◌, ◌≢◌, ℕ, zero, suc, ◌+◌, Bool, true, false, cond, List, [], ◌∷◌, ◌++◌, Some, None, refl, sym, subst, ◌∙◌, ap, arith, set, get_or}
-use Rattle.std.specs.Prelude.{Option, if◌then◌else◌, ◌==◌, not, ◌&&◌, ◌||◌}
+use Rattle.std.proofs.Common.{◌≡◌, ℕ, zero, suc, Bool, true, false, cond, List, [], ◌∷◌, ◌++◌, Some, None, refl, arith, set, get_or}
+use Rattle.std.specs.Prelude.{Option, if◌then◌else◌, ◌==◌}
 use Rattle.std.specs.List.{list_all}
-use Rattle.std.proofs.lemmas.Bool.Decides.{nat_tests}
 use Rattle.m3_base.specs.declared.ids.FlightId.{FlightId}
 use Rattle.m3_base.specs.declared.message.Message.{Message}
 use Rattle.m3_base.specs.declared.command.Answer.{Answer}
-use Rattle.m3_base.specs.declared.command.Command.{Command}
 use Rattle.m3_base.specs.declared.command.Refusal.{Refusal}
 use Rattle.m3_base.specs.declared.packet.Packet.{Packet}
 use Rattle.m3_base.specs.declared.packet.Fresh.{Fresh}
-use Rattle.m3_base.specs.Flight.{name_of}
-use Rattle.m3_base.specs.Context.{Kind, Sending, Replying, Reading, Writing, Flying, SendRecord, Fetched, ReceiveRecord, Endpoint, Free, Sends, Receives, Reaches, Context, endpoint, with_endpoint, opened}
-use Rattle.m3_base.specs.Receive.{with_unread, with_fetched, fetched_at, unmarked, without_token, with_mark, freed, marking}
-use Rattle.m3_base.specs.Land.{Landed, land, land_by, land_refusal, joined, credited, with_credit, taken, closed_at, settled, answered, has_live, flies_at, flying_at, frees, message_id}
+use Rattle.m3_base.specs.Context.{Kind, Flying, Fetched, Endpoint, Free, Sends, Receives, Reaches, Context, endpoint, with_endpoint, opened}
+use Rattle.m3_base.specs.Receive.{without_token, with_mark}
+use Rattle.m3_base.specs.Land.{land_by, land_refusal, joined, credited, with_credit, taken, closed_at, settled, answered, has_live, flies_at, flying_at, frees}
 use Rattle.m3_base.specs.Arrive.{Arrived, arrive, close_arrives, answer_arrives, settles}
-use Rattle.m3_base.specs.Places.{target}
 use Rattle.m3_machine.specs.Parts.{Site}
-use Rattle.m3_machine.specs.Naming.{is_home, is_named, acts_in, acts_in_form, is_from_home, is_fetched_from_home, names_at, is_named_context}
+use Rattle.m3_machine.specs.Naming.{is_home, is_named, acts_in_form, is_from_home, is_fetched_from_home, names_at, is_named_context}
 
 -- ---- lists of endpoints
 

@@ -1,51 +1,37 @@
 -- A setup's machine opens sound, as the ideal machine and the places open.
-use Rattle.std.proofs.Common.{◌≡◌, ◌≢◌, ℕ, zero, suc, ◌+◌, ◌*◌, ◌<◌, ◌≤◌, Bool, true, false, cond, List, [], ◌∷◌, ◌++◌, Some, None, refl, sym, subst, ◌∙◌, ap, arith, append_assoc, append-nil, set, get_or, length, map, replicate, Option, ◌⊎◌, inl, inr}
-use Rattle.std.specs.Prelude.{if◌then◌else◌, ◌==◌, not, ◌&&◌, ◌||◌, is_some}
-use Rattle.std.specs.List.{list_all, list_any}
+use Rattle.std.proofs.Common.{◌≡◌, ℕ, zero, suc, ◌+◌, ◌*◌, ◌<◌, ◌≤◌, Bool, true, false, cond, List, [], ◌∷◌, ◌++◌, Some, None, refl, sym, subst, ◌∙◌, ap, arith, get_or, length, map, replicate, Option}
+use Rattle.std.specs.Prelude.{◌==◌, ◌&&◌}
+use Rattle.std.specs.List.{list_any}
 use Rattle.std.proofs.lemmas.Bool.Decides.{nat_tests}
-use Rattle.std.proofs.lemmas.List.{map-append, map-set, get_or-map, set-get_or}
-use Rattle.m3_base.specs.declared.packet.Packet.{Packet}
 use Rattle.m3_base.specs.declared.setup_line.SetupLine.{SetupLine}
 use Rattle.m3_base.specs.Keyed as keyed
 use Rattle.m3_base.specs.Sums.{one, how_many}
-use Rattle.m3_base.specs.Context.{Context}
-use Rattle.m3_base.specs.State.{State, context_of, new_context_in, same_act}
+use Rattle.m3_base.specs.State.{State, context_of, same_act}
 use Rattle.m3_base.specs.Places as places
 use Rattle.m3_base.specs.Places.{Places, Actor}
 use Rattle.m3_merge.specs.Parts.{Each}
-use Rattle.m3_merge.proofs.Merged.{each_append, each_map}
-use Rattle.m3_merge.proofs.Stamps.{each_front, each_back}
-use Rattle.m3_machine.specs.Parts.{Home, Site, home_act, home_of, tile_of, tile_in, Parcel, Stay, Tile, Away, Seating, Is_placed, Is_leaving, Is_resting, Is_coming, Seat, Kernel}
+use Rattle.m3_merge.proofs.Merged.{each_map}
+use Rattle.m3_machine.specs.Parts.{Home, Site, home_act, home_of, tile_of, tile_in, Parcel, Seating, Is_placed, Is_leaving, Is_resting, Is_coming, Seat}
 use Rattle.m3_machine.specs.Naming.{is_home, is_named_context}
 use Rattle.m3_machine.specs.Tile.{stay_act, stay_of, act_in}
-use Rattle.m3_machine.specs.Kernel.{seat_act, seat_of, placed_at, is_placed_seat}
-use Rattle.m3_machine.specs.Machine.{Machine, empty_tile, tile_at, new_stay, first_there, opened_seating, joined_ready, is_there, seated_at_opening, with_seats}
-use Rattle.m3_machine.specs.At.{each, on_links, as_list, here, away, contexts_in, all_contexts, by_act, actor_in, actor_by, current_act, token, places_of}
-use Rattle.m3_machine.specs.Sound.{ActsApart, IsThere, LivesAt, act_of_seat, placed_on, is_placed_at, has_home}
-use Rattle.m3_machine.proofs.Inserts.{Inserts, inserts_left, inserts_right, around_set, fills, alike, each-append}
-use Rattle.m3_machine.proofs.Moved.{by_act-inserts, by_act-middle, length-set}
-use Rattle.m3_machine.proofs.Saving.{apart-by_act, tokens}
-use Rattle.m3_machine.proofs.Switching.{apart_add}
-use Rattle.m3_machine.proofs.Sets.{get_or-set, how_many-append}
-use Rattle.m3_machine.proofs.Changed.{map-same}
-use Rattle.m3_machine.proofs.Lines.{home_in, its_context, acts_back}
-use Rattle.m3_machine.proofs.Seating.{find_before, find_last, find_none, any-append, home_parts, OpenSeating, OpenSeat, place_home, place_homes, SeatedSoFar, apart_joins, each_joins, placed-append}
-use Rattle.m3_machine.specs.Sound.{HomesApart}
-use Rattle.m3_machine.proofs.Lines.{Has, its_is}
+use Rattle.m3_machine.specs.Kernel.{seat_act, seat_of}
+use Rattle.m3_machine.specs.Machine.{Machine, empty_tile, tile_at, new_stay, is_there}
+use Rattle.m3_machine.specs.At.{on_links, contexts_in, all_contexts, by_act, current_act, places_of}
+use Rattle.m3_machine.specs.Sound.{ActsApart, IsThere, placed_on}
+use Rattle.m3_machine.proofs.Saving.{apart-by_act}
+use Rattle.m3_machine.proofs.Lines.{home_in}
+use Rattle.m3_machine.proofs.Seating.{OpenSeating, OpenSeat, place_homes, SeatedSoFar}
+use Rattle.m3_machine.proofs.Lines.{Has}
 use Rattle.m3_machine.proofs.Along.{Along}
-use Rattle.m3_machine.proofs.SeatedOne.{seated_one, seat_step}
-use Rattle.m3_base.specs.Sums.{total}
-use Rattle.m3_base.specs.State.{Grant, grant_in, holder}
+use Rattle.m3_base.specs.State.{holder}
 use Rattle.m3_base.specs.Obeys.{AllObey}
-use Rattle.m3_base.specs.Opening.{with_line, with_lines, opening}
+use Rattle.m3_base.specs.Opening.{opening}
 use Rattle.m3_machine.specs.Kernel.{is_leaving_seat, is_leaving_at, is_coming_seat}
-use Rattle.m3_machine.specs.Machine.{with_home, site_of, empty_tiles, link_at, seated_all, opened_machine}
-use Rattle.m3_machine.specs.Machine as machine
-use Rattle.m3_machine.specs.At.{held_by, packets_in, closed_in, all_packets, all_closed, by_name, is_in, closed_from, closed_if, at}
-use Rattle.m3_machine.specs.Sound.{NamesApart, ClosedApart, IsShut, At, Walks, IsSetup, IsHoused, IsSeated, IsSound, ParcelOk, Orderly, SeatOk, HeldOk, EndedAs, stay_at, of_act, leavings, is_leaving_of, is_coming_at}
-use Rattle.m3_machine.proofs.Along.{act_along, grant_along}
+use Rattle.m3_machine.specs.Machine.{site_of, empty_tiles, link_at, opened_machine}
+use Rattle.m3_machine.specs.At.{packets_in, closed_in, all_packets, all_closed, by_name, is_in, closed_from, at}
+use Rattle.m3_machine.specs.Sound.{NamesApart, ClosedApart, At, Walks, IsSound, ParcelOk, Orderly, SeatOk, HeldOk, EndedAs, stay_at, of_act, leavings, is_leaving_of, is_coming_at}
 use Rattle.m3_machine.proofs.SeatedAll.{with_homes, all_seated}
-use Rattle.m3_machine.proofs.Opens.{homes_of, quantum_of, TilesOk, site_is, lines_are, places_quantum, along_lines, found_there, there_home, tiles_in, no_links, no_link, no_total, no_length, none_closed, no_holds, count_none, blank_current, blank_stays, there_of, is_there_of}
+use Rattle.m3_machine.proofs.Opens.{homes_of, quantum_of, TilesOk, site_is, lines_are, places_quantum, along_lines, found_there, there_home, tiles_in, no_links, no_link, no_total, no_length, none_closed, no_holds, count_none, blank_current, blank_stays, is_there_of}
 
 open_leaving : (x : Seat) → OpenSeat x → is_leaving_seat x.seating ≡ false
 open_leaving x k = by_seating x.act x.seating k.1

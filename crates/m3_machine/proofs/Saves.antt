@@ -1,41 +1,36 @@
 -- A tile takes Save, or sends a packet on to the kernel: the whole events.
-use Rattle.std.proofs.Common.{◌≡◌, ◌≢◌, ℕ, zero, suc, ◌+◌, ◌*◌, ◌<◌, ◌≤◌, Bool, true, false, cond, List, [], ◌∷◌, ◌++◌, Some, None, refl, sym, subst, ◌∙◌, ap, arith, append_assoc, set, get_or, length, map, Option, ◌⊎◌, inl, inr}
-use Rattle.std.specs.Prelude.{if◌then◌else◌, ◌==◌, not, ◌&&◌, ◌||◌, is_some}
+use Rattle.std.proofs.Common.{◌≡◌, ℕ, ◌+◌, ◌*◌, ◌<◌, ◌≤◌, Bool, true, false, cond, List, [], ◌∷◌, ◌++◌, Some, None, refl, sym, subst, ◌∙◌, ap, arith, set, get_or, length, Option, inl}
+use Rattle.std.specs.Prelude.{◌==◌, is_some}
 use Rattle.std.proofs.lemmas.Bool.Decides.{nat_tests}
 use Rattle.std.proofs.lemmas.List.{set-get_or}
 use Rattle.m3_base.specs.declared.packet.Packet.{Packet}
 use Rattle.m3_base.specs.declared.event.Event.{Event}
-use Rattle.m3_base.specs.declared.event.Said.{Said}
 use Rattle.m3_base.specs.Keyed as keyed
-use Rattle.m3_base.specs.Sums.{one, how_many}
-use Rattle.m3_base.specs.Flight.{name_of, flight}
 use Rattle.m3_base.specs.Context.{Context}
-use Rattle.m3_base.specs.State.{context_of, same_act}
+use Rattle.m3_base.specs.State.{same_act}
 use Rattle.m3_base.specs.Places.{target, is_here}
 use Rattle.m3_merge.specs.Parts.{Each}
 use Rattle.m3_merge.proofs.Merged.{each_map}
-use Rattle.m3_machine.specs.Parts.{Site, Home, Kernel, home_of, tile_of, tile_in, Parcel, Data, Save, Saved, Restore, Yield, Closed, Stay, Tile, Seat}
-use Rattle.m3_machine.specs.Naming.{is_home, is_named, is_named_context}
-use Rattle.m3_machine.specs.Tile.{act_in, stay_of, with_current, waits}
+use Rattle.m3_machine.specs.Parts.{Site, Home, home_of, tile_of, tile_in, Parcel, Data, Save, Saved, Stay, Tile}
+use Rattle.m3_machine.specs.Naming.{is_home, is_named_context}
+use Rattle.m3_machine.specs.Tile.{stay_of, with_current, waits}
 use Rattle.m3_machine.specs.Machine.{Machine, Is_tile, empty_tile, tile_at, link_at, with_link, with_part, pushed_all, mstep}
-use Rattle.m3_machine.specs.At.{each, on_links, as_list, here, away, contexts_in, packets_in, closed_in, held_by, all_contexts, all_packets, all_closed, is_in, by_act, at, current_act, places_of}
-use Rattle.m3_machine.specs.Sound.{ActsApart, NamesApart, ClosedApart, IsThere, LivesAt, Walks, placed_on, stay_at, EndedAs, GoesTo, ParcelOk, SeatOk, Orderly, of_act, leavings, IsHoused, IsSeated, IsSound}
+use Rattle.m3_machine.specs.At.{each, on_links, as_list, here, away, contexts_in, packets_in, closed_in, held_by, all_contexts, all_packets, all_closed, is_in, current_act}
+use Rattle.m3_machine.specs.Sound.{NamesApart, ClosedApart, IsThere, LivesAt, Walks, placed_on, stay_at, EndedAs, GoesTo, ParcelOk, leavings, IsSound}
 use Rattle.m3_machine.specs.Refines.{Refined}
 use Rattle.m3_machine.proofs.Inserts.{Inserts, inserts_left, inserts_right, around_set, empties}
 use Rattle.m3_machine.proofs.Moved.{moved, moved_none, moved_in, length-set}
-use Rattle.m3_machine.proofs.Switching.{left_by}
 use Rattle.m3_machine.proofs.Saving.{after_save, takes_save}
 use Rattle.m3_machine.proofs.Routing.{save_step}
-use Rattle.m3_machine.proofs.Bouncing.{after_bounce, bounce_step, bounces}
+use Rattle.m3_machine.proofs.Bouncing.{bounce_step, bounces}
 use Rattle.m3_machine.proofs.Walks.{front_save}
 use Rattle.m3_machine.proofs.Resting.{save_fits}
-use Rattle.m3_machine.proofs.Sets.{get_or-set, links_set, is_link}
-use Rattle.m3_machine.proofs.Linkwise.{OnEach, pop_length, pop_front, pop_each, pop_leavings, pop_orderly, push_length, push_each, push_leavings, push_orderly, push_kernel, moves_each, moves_known, moves_apart}
+use Rattle.m3_machine.proofs.Sets.{get_or-set, is_link}
+use Rattle.m3_machine.proofs.Linkwise.{pop_length, pop_each, pop_leavings, pop_orderly, push_length, push_each, push_leavings, push_orderly, push_kernel, moves_each, moves_known, moves_apart}
 use Rattle.m3_machine.proofs.Popped.{popped_absent, popped_ok, popped_sound}
 use Rattle.m3_machine.proofs.Pushed.{sending_sound, walks_elsewhere}
 use Rattle.m3_machine.proofs.Changed.{Alike, alike-itself, ended-alike, there-alike}
 use Rattle.m3_machine.proofs.Running.{parcel-alike, seat-alike}
-use Rattle.m3_machine.proofs.Emitting.{home_tile}
 
 there_of : {X : Type 0} (o : Option X) → IsThere o → (x : X) × (o ≡ Some x)
 there_of None k = absurd k

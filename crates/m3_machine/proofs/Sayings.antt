@@ -1,15 +1,10 @@
 -- Orders, turns and then any event: what the places' step gives is what the ideal steps of its entry say, and the state that they reach.
-use Rattle.std.proofs.Common.{◌≡◌, ◌≢◌, ℕ, ◌+◌, Bool, true, false, cond, List, [], ◌∷◌, Some, None, refl, sym, subst, ◌∙◌, ap, arith, Option, ◌⊎◌, inl, inr}
-use Rattle.std.specs.Prelude.{if◌then◌else◌, ◌==◌, not, ◌&&◌, ◌||◌, is_some, is_none, IsSomeAnd}
+use Rattle.std.proofs.Common.{◌≡◌, ℕ, ◌+◌, Bool, true, false, cond, List, [], ◌∷◌, Some, None, refl, sym, subst, ◌∙◌, ap, arith, Option, inl, inr}
+use Rattle.std.specs.Prelude.{if◌then◌else◌, ◌==◌, not, ◌||◌, is_some}
 use Rattle.std.specs.List.{list_any}
 use Rattle.std.proofs.lemmas.Bool.Decides.{nat_tests}
 use Rattle.m3_base.specs.declared.ids.FlightId.{FlightId}
-use Rattle.m3_base.specs.declared.message.Message.{Message}
-use Rattle.m3_base.specs.declared.command.Answer.{Answer}
 use Rattle.m3_base.specs.declared.command.Command.{Command}
-use Rattle.m3_base.specs.declared.command.Refusal.{Refusal}
-use Rattle.m3_base.specs.declared.command.Reply.{Reply}
-use Rattle.m3_base.specs.declared.packet.Packet.{Packet}
 use Rattle.m3_base.specs.declared.packet.Fresh.{Fresh}
 use Rattle.m3_base.specs.declared.order.GrantLine.{GrantLine}
 use Rattle.m3_base.specs.declared.order.Order.{Order}
@@ -18,21 +13,15 @@ use Rattle.m3_base.specs.declared.event.Made.{Made}
 use Rattle.m3_base.specs.declared.event.Said.{Said}
 use Rattle.m3_base.specs.declared.event.No.{No}
 use Rattle.m3_base.specs.declared.event.IdleWhy.{IdleWhy}
-use Rattle.m3_base.specs.declared.event.Entry.{Entry}
-use Rattle.m3_base.specs.declared.event.Outcome.{Outcome}
 use Rattle.m3_base.specs.declared.step.Step.{Step}
-use Rattle.m3_base.specs.Flight.{flight}
-use Rattle.m3_base.specs.Context.{Context, Flying, endpoint}
-use Rattle.m3_base.specs.Issue.{Told, Gives, Flies, Issued, issue}
-use Rattle.m3_base.specs.Land.{land, has_send, has_live, has_closing, flies_at, flying_at}
-use Rattle.m3_base.specs.State.{Grant, State, context_of, grant_in, holder, holder_ep}
-use Rattle.m3_base.specs.Grants.{is_closed_grant, may_close, revoke_refusal, kernel_id}
+use Rattle.m3_base.specs.Context.{Context, endpoint}
+use Rattle.m3_base.specs.State.{Grant, State, context_of, grant_in, holder}
+use Rattle.m3_base.specs.Grants.{may_close, revoke_refusal, kernel_id}
 use Rattle.m3_base.specs.Keyed as keyed
-use Rattle.m3_base.specs.Steps.{Word, At_issue, Present, Landing, Refusing, Credits, Discards, Installs, Starts_closing, Is_closed, Answers, Not_made, Makes, Revokes, Sends_close, Frees, Is_done, Next, Ran, istep, irun, on_from, with_word, issue_in, issued_in, land_in, message_in, credit_in, install_in, close_in, answered_in, answer_in, settle_in, landing_word, closed_in, free_in, done_in, make_for, make_in, revoke_in, send_close_in, has_unread, await_in}
-use Rattle.m3_base.specs.Entries.{Says, SaysBy, Shows, ShowsNone, steps_of, next_state, ran_to, said_of, is_held, shown_told, shown_reply, shown_message, command_steps, await_steps, turn_steps, landing_steps, close_steps, order_steps}
+use Rattle.m3_base.specs.Steps.{Word, At_issue, Present, Landing, Refusing, Credits, Discards, Installs, Starts_closing, Is_closed, Answers, Not_made, Makes, Revokes, Sends_close, Frees, Is_done, Next, istep, irun, on_from, make_for, make_in, revoke_in, send_close_in, has_unread, await_in}
+use Rattle.m3_base.specs.Entries.{Shows, ShowsNone, ran_to, said_of, is_held, turn_steps, close_steps, order_steps}
 use Rattle.m3_base.specs.Places as places
 use Rattle.m3_base.specs.Places.{Places, Actor, pstep, Did, said_or_nothing, Came, came, came_by, closes, words_in, landing_step}
-use Rattle.m3_machine.specs.Sound.{IsThere}
 use Rattle.m3_machine.proofs.Saying.{SaidBy, SaysAs, CommandAs, TakeAs, one_step, command_as, do_as, take_as, tend_as}
 
 -- ---- orders

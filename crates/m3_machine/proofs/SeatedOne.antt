@@ -1,33 +1,27 @@
 -- One more home is seated at opening.
-use Rattle.std.proofs.Common.{◌≡◌, ◌≢◌, ℕ, zero, suc, ◌+◌, ◌*◌, ◌<◌, ◌≤◌, Bool, true, false, cond, List, [], ◌∷◌, ◌++◌, Some, None, refl, sym, subst, ◌∙◌, ap, arith, append_assoc, append-nil, set, get_or, length, map, replicate, Option, ◌⊎◌, inl, inr}
-use Rattle.std.specs.Prelude.{if◌then◌else◌, ◌==◌, not, ◌&&◌, ◌||◌, is_some}
-use Rattle.std.specs.List.{list_all, list_any}
+use Rattle.std.proofs.Common.{◌≡◌, ℕ, ◌+◌, ◌<◌, Bool, true, false, cond, List, [], ◌∷◌, ◌++◌, Some, None, refl, sym, subst, ◌∙◌, ap, arith, append-nil, set, get_or, length, map, Option}
+use Rattle.std.specs.Prelude.{◌==◌, not, ◌&&◌, ◌||◌, is_some}
+use Rattle.std.specs.List.{list_any}
 use Rattle.std.proofs.lemmas.Bool.Decides.{nat_tests}
-use Rattle.std.proofs.lemmas.List.{map-append, map-set, get_or-map, set-get_or}
-use Rattle.m3_base.specs.Keyed as keyed
+use Rattle.std.proofs.lemmas.List.{map-append}
 use Rattle.m3_base.specs.Sums.{one, how_many}
 use Rattle.m3_base.specs.Context.{Context}
-use Rattle.m3_base.specs.State.{State, context_of, new_context_in, same_act}
-use Rattle.m3_base.specs.Places as places
-use Rattle.m3_base.specs.Places.{Places, Actor}
+use Rattle.m3_base.specs.State.{State, context_of, new_context_in}
 use Rattle.m3_merge.specs.Parts.{Each}
 use Rattle.m3_merge.proofs.Merged.{each_append, each_map}
-use Rattle.m3_merge.proofs.Stamps.{each_front, each_back}
-use Rattle.m3_machine.specs.Parts.{Home, Site, home_act, home_of, tile_of, tile_in, Parcel, Stay, Tile, Away, Seating, Is_placed, Is_leaving, Is_resting, Is_coming, Seat, Kernel}
-use Rattle.m3_machine.specs.Naming.{is_home, is_named_context}
+use Rattle.m3_machine.specs.Parts.{Home, Site, home_act, tile_of, tile_in, Tile, Is_placed, Is_resting, Seat, Kernel}
+use Rattle.m3_machine.specs.Naming.{is_named_context}
 use Rattle.m3_machine.specs.Tile.{stay_act, stay_of, act_in}
-use Rattle.m3_machine.specs.Kernel.{seat_act, seat_of, placed_at, is_placed_seat}
-use Rattle.m3_machine.specs.Machine.{Machine, empty_tile, tile_at, new_stay, first_there, opened_seating, joined_ready, is_there, seated_at_opening}
-use Rattle.m3_machine.specs.At.{each, on_links, as_list, here, away, contexts_in, all_contexts, by_act, actor_in, actor_by, current_act, token, places_of}
-use Rattle.m3_machine.specs.Sound.{ActsApart, IsThere, LivesAt, act_of_seat, placed_on, is_placed_at, has_home}
+use Rattle.m3_machine.specs.Kernel.{seat_act, seat_of, placed_at}
+use Rattle.m3_machine.specs.Machine.{Machine, empty_tile, tile_at, new_stay, first_there, opened_seating, joined_ready, is_there}
+use Rattle.m3_machine.specs.At.{each, on_links, as_list, here, away, contexts_in, all_contexts, by_act}
+use Rattle.m3_machine.specs.Sound.{IsThere, LivesAt, act_of_seat, placed_on, is_placed_at, has_home}
 use Rattle.m3_machine.proofs.Inserts.{Inserts, inserts_left, inserts_right, around_set, fills, alike, each-append}
 use Rattle.m3_machine.proofs.Moved.{by_act-inserts, by_act-middle, length-set}
-use Rattle.m3_machine.proofs.Saving.{apart-by_act, tokens}
-use Rattle.m3_machine.proofs.Switching.{apart_add}
+use Rattle.m3_machine.proofs.Saving.{apart-by_act}
 use Rattle.m3_machine.proofs.Sets.{get_or-set, how_many-append}
-use Rattle.m3_machine.proofs.Changed.{map-same}
 use Rattle.m3_machine.proofs.Lines.{home_in, its_context, acts_back}
-use Rattle.m3_machine.proofs.Seating.{find_before, find_last, find_none, any-append, home_parts, OpenSeating, OpenSeat, place_home, SeatedSoFar, apart_joins, each_joins, placed-append}
+use Rattle.m3_machine.proofs.Seating.{find_before, find_last, find_none, any-append, home_parts, OpenSeat, SeatedSoFar, apart_joins, each_joins, placed-append}
 
 there_of : {X : Type 0} (o : Option X) → IsThere o → (x : X) × (o ≡ Some x)
 there_of None k = absurd k

@@ -1,6 +1,6 @@
 -- The memory takes a read or a write.
-use Rattle.std.proofs.Common.{◌≡◌, ◌≢◌, ℕ, zero, suc, ◌+◌, ◌*◌, ◌<◌, ◌≤◌, Bool, true, false, cond, List, [], ◌∷◌, ◌++◌, Some, None, refl, sym, subst, ◌∙◌, ap, arith, set, get_or, length, map, Option, ◌⊎◌, inl, inr}
-use Rattle.std.specs.Prelude.{if◌then◌else◌, ◌==◌, nat_le, not, ◌&&◌, ◌||◌, is_some}
+use Rattle.std.proofs.Common.{◌≡◌, ℕ, ◌+◌, ◌*◌, ◌<◌, Bool, true, cond, List, [], ◌∷◌, Some, None, refl, sym, subst, ◌∙◌, ap, arith, length, map, inl, inr}
+use Rattle.std.specs.Prelude.{nat_le, ◌&&◌}
 use Rattle.std.proofs.lemmas.Bool.Decides.{nat_tests}
 use Rattle.std.proofs.lemmas.List.{get_or-map}
 use Rattle.m3_base.specs.declared.ids.FlightId.{FlightId}
@@ -18,10 +18,10 @@ use Rattle.m3_base.specs.Places.{pstep, target, came, landing_step, still, push_
 use Rattle.m3_base.proofs.Sorting.{change-new, find-new}
 use Rattle.m3_machine.specs.Parts.{Site, tile_of, Parcel, Data, Save, Saved, Restore, Yield, Closed, dropped}
 use Rattle.m3_machine.specs.Naming.{is_home, is_named}
-use Rattle.m3_machine.specs.Memory.{may_serve, served, serve, memory_take}
-use Rattle.m3_machine.specs.Machine.{Machine, Is_memory, link_at, with_link, with_part, pushed_all, part_at, part_step, mstep, done_by, front, rest, of_memory}
-use Rattle.m3_machine.specs.At.{all_packets, at, token, places_of}
-use Rattle.m3_machine.specs.Sound.{GoesTo, ParcelOk, IsHoused, IsSeated, Hypotheses, IsSound}
+use Rattle.m3_machine.specs.Memory.{served, serve}
+use Rattle.m3_machine.specs.Machine.{Machine, Is_memory, link_at, with_link, pushed_all, part_step, mstep, done_by, front, rest, of_memory}
+use Rattle.m3_machine.specs.At.{at, token, places_of}
+use Rattle.m3_machine.specs.Sound.{GoesTo, ParcelOk, Hypotheses, IsSound}
 use Rattle.m3_machine.specs.Refines.{Refined}
 use Rattle.m3_merge.specs.Parts.{Each}
 use Rattle.m3_machine.proofs.Coming.{came_one}

@@ -39,3 +39,11 @@ module _ {Q : Type 0} (links : List (List Q)) (f t : ℕ) (ys : List Q) (hf : f 
       by_test : (z : Bool) → (16 * f + t == 16 * a + b) ≡ z → P a b (cond z ys (get_or links (16 * a + b) []))
       by_test true e = let s = same_link f t a b ht hb e in new s.0 s.1
       by_test false e = old
+
+  -- and a fact on each other link that holds of the one that is set anew
+  pub links_either : (P : ℕ → ℕ → List Q → Type 0) (a b : ℕ) → b < 16 → ((16 * f + t == 16 * a + b) ≡ false → P a b (get_or links (16 * a + b) [])) → (f ≡ a → t ≡ b → P a b ys) → P a b (get_or (set links (16 * f + t) ys) (16 * a + b) [])
+  links_either P a b hb old new = subst (P a b) (sym (get_or-set links (16 * f + t) (16 * a + b) ys [] is_link)) (by_test (16 * f + t == 16 * a + b) refl)
+    where
+      by_test : (z : Bool) → (16 * f + t == 16 * a + b) ≡ z → P a b (cond z ys (get_or links (16 * a + b) []))
+      by_test true e = let s = same_link f t a b ht hb e in new s.0 s.1
+      by_test false e = old e

@@ -2,7 +2,7 @@
 
 ghost use Rattle.std.specs.Prelude.{◌≡◌, ℕ, ◌<◌, ◌≤◌, true, false, IsOk, IfOk, option_copied};
 ghost use Rattle.m3_core.specs.Sound.{HasSender, HasReplyPlace};
-ghost use Rattle.m3_core.specs.Slots.{sent, unless_refused, send_refusal_at, target_of, less_unless, replying, fetching, acknowledging, accessing, changed_if, less_at, marking_at, fetched_at_once, freed_at, oldest_at, fetched_message_at, HasToken};
+ghost use Rattle.m3_core.specs.Slots.{sent, unless_refused, send_refusal_at, target_of, less_unless, replying, fetching, acknowledging, accessing, changed_if, less_at, marking_at, after_fetch_at, freed_at, oldest_at, fetched_message_at, HasToken};
 
 use crate::slot::{Place, Slot, Target};
 use m3_base::command::Refusal;
@@ -49,7 +49,7 @@ impl Slot {
     pub fn fetch(&mut self) -> Result<Option<u32>, Refusal>
         requires { HasToken self.old }
         ensures answer { result ≡ fetching self.old }
-        ensures after { self.new ≡ changed_if result (fetched_at_once self.old) self.old }
+        ensures after { self.new ≡ changed_if result (after_fetch_at self.old) self.old }
     {
         let Record::Receive(r) = &mut self.occupant else {
             return Err(Refusal::NoEndpoint);

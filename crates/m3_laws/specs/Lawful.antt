@@ -13,7 +13,7 @@ use Rattle.m3_base.specs.Grants.{form}
 use Rattle.m3_base.specs.Steps.{number_of}
 use Rattle.m3_base.specs.Credit.{credits, gives_back_in}
 use Rattle.m3_base.proofs.Names.{Apart, Distinct}
-use Rattle.m3_laws.proofs.Moving.{Stands}
+use Rattle.m3_laws.specs.Stands.{Stands}
 use Rattle.m3_laws.specs.Laws.{is_open, limit_of, installs, closes}
 
 -- ---- grants

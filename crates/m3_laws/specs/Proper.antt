@@ -1,0 +1,172 @@
+-- What holds of every ideal state beside its grants, records and credits: numbers in their ranges, and which command each packet belongs to.
+use Rattle.std.specs.Prelude.{◌≡◌, ℕ, ◌+◌, ◌<◌, ◌≤◌, Bool, true, false, ◌&&◌, ◌==◌, nat_lt, nat_le, List, [], ◌∷◌, length, Option, Some, None, if◌then◌else◌}
+use Rattle.m3_base.specs.declared.ids.FlightId.{FlightId}
+use Rattle.m3_base.specs.declared.message.Message.{Message}
+use Rattle.m3_base.specs.declared.packet.Packet.{Packet}
+use Rattle.m3_base.specs.declared.packet.Fresh.{Fresh}
+use Rattle.m3_base.specs.declared.command.Answer.{Answer}
+use Rattle.m3_base.specs.declared.packet.Perm.{Perm}
+use Rattle.m3_base.specs.declared.order.GrantLine.{GrantLine}
+use Rattle.m3_base.specs.declared.step.Step.{Step}
+use Rattle.m3_base.specs.Flight.{kernel, flight, name_of}
+use Rattle.m3_base.specs.Context.{Kind, Sending, Replying, Reading, Writing, Flying, Fetched, Endpoint, Free, Sends, Receives, Reaches, Context, endpoint}
+use Rattle.m3_base.specs.Land.{grant_of, is_grant, flying_at}
+use Rattle.m3_base.specs.State.{Grant, State, holder, holder_ep, grant_in, context_of}
+use Rattle.m3_base.specs.Credit.{covers}
+use Rattle.m3_base.specs.Limits.{is_in_limits}
+use Rattle.m3_base.specs.Fits.{is_message, is_form, is_answer_for}
+
+-- ---- numbers
+
+-- a packet's numbers are in their ranges
+abbrev pub is_proper : Packet → Bool
+is_proper (Packet.Message to ep h m) = is_message m
+is_proper (Packet.Credit id to h) = nat_lt 0 id.number && nat_lt id.issuer kernel
+is_proper (Packet.Read id h place buffer) = nat_lt 0 id.number && nat_le (length buffer) 4096
+is_proper (Packet.Write id h place payload) = nat_lt 0 id.number && nat_le (length payload) 4096
+is_proper (Packet.Answer id answer) = nat_lt 0 id.number
+is_proper (Packet.Install id to ep f) = (id.issuer == kernel) && (nat_lt 0 id.number && is_form f)
+is_proper (Packet.Close id to ep h) = (id.issuer == kernel) && nat_lt 0 id.number
+
+abbrev pub are_messages : List Message → Bool
+are_messages [] = true
+are_messages (m ∷ ms) = is_message m && are_messages ms
+
+abbrev pub are_fetched : List Fetched → Bool
+are_fetched [] = true
+are_fetched (f ∷ fs) = is_message f.message && are_fetched fs
+
+-- each queued message has its numbers in their ranges
+abbrev pub is_tidy : Endpoint → Bool
+is_tidy (Receives r) = are_messages r.unread && are_fetched r.fetched
+is_tidy Free = true
+is_tidy (Sends r) = true
+is_tidy (Reaches r) = true
+
+-- the bytes of a range lie in memory
+abbrev pub is_inside : ℕ → Fresh → Bool
+is_inside memory (Fresh.Memory g start len perm) = nat_le (start + len) memory
+is_inside memory (Fresh.Send g to to_ep to_grant label size limit) = true
+is_inside memory (Fresh.Receive g slots size) = true
+
+-- ---- commands and their packets
+
+-- a flying command's kind, and the grant of its endpoint
+pub record Use : Type 0 where
+  pub kind : Kind
+  pub grant : Option ℕ
+
+abbrev pub use_by : Context → Option Flying → Option Use
+use_by c None = None
+use_by c (Some f) = Some (record { kind = f.kind; grant = grant_of (endpoint c f.ep) })
+
+abbrev pub use_in : ℕ → Option Context → Option Use
+use_in n None = None
+use_in n (Some c) = use_by c (flying_at n c.flying)
+
+-- what the command of this name uses
+abbrev pub use_of : List Context → FlightId → Option Use
+use_of cs id = use_in id.number (context_of id.issuer cs)
+
+abbrev pub is_sending : Kind → Bool
+is_sending Sending = true
+is_sending Replying = false
+is_sending Reading = false
+is_sending Writing = false
+
+abbrev pub is_replying : Kind → Bool
+is_replying Sending = false
+is_replying Replying = true
+is_replying Reading = false
+is_replying Writing = false
+
+abbrev pub is_reading : Kind → Bool
+is_reading Sending = false
+is_reading Replying = false
+is_reading Reading = true
+is_reading Writing = false
+
+abbrev pub is_writing : Kind → Bool
+is_writing Sending = false
+is_writing Replying = false
+is_writing Reading = false
+is_writing Writing = true
+
+abbrev pub uses_send : ℕ → Option Use → Bool
+uses_send g None = false
+uses_send g (Some u) = is_sending u.kind && is_grant g u.grant
+
+abbrev pub uses_reply : Option Use → Bool
+uses_reply None = false
+uses_reply (Some u) = is_replying u.kind
+
+abbrev pub uses_read : ℕ → Option Use → Bool
+uses_read g None = false
+uses_read g (Some u) = is_reading u.kind && is_grant g u.grant
+
+abbrev pub uses_write : ℕ → Option Use → Bool
+uses_write g None = false
+uses_write g (Some u) = is_writing u.kind && is_grant g u.grant
+
+abbrev pub gets : Answer → Option Use → Bool
+gets answer None = false
+gets answer (Some u) = is_answer_for u.kind answer
+
+-- the command of this use can have sent this packet, or get this answer
+abbrev pub expects : Option Use → Packet → Bool
+expects u (Packet.Message to ep h m) = if m.header.flags == 0 then uses_send m.header.send u else uses_reply u
+expects u (Packet.Read id h place buffer) = uses_read h u
+expects u (Packet.Write id h place payload) = uses_write h u
+expects u (Packet.Answer id answer) = gets answer u
+expects u (Packet.Credit id to h) = true
+expects u (Packet.Install id to ep f) = true
+expects u (Packet.Close id to ep h) = true
+
+-- ---- packets and their grants
+
+-- the grant's range has these bytes, with that permission
+abbrev pub is_covered : ℕ → ℕ → Perm → ℕ → Option Grant → Bool
+is_covered at len perm g None = false
+is_covered at len perm g (Some x) = covers g at len perm x.fresh
+
+abbrev pub is_held_at : ℕ → ℕ → Option Grant → Bool
+is_held_at a ep None = false
+is_held_at a ep (Some x) = (holder x.line == a) && (holder_ep x.line == ep)
+
+-- a read or write has its bytes from its grant, and a Close goes where its grant is held
+abbrev pub is_entitled : List Grant → Packet → Bool
+is_entitled gs (Packet.Read id h place buffer) = is_covered place (length buffer) Perm.R h (grant_in gs h)
+is_entitled gs (Packet.Write id h place payload) = is_covered place (length payload) Perm.W h (grant_in gs h)
+is_entitled gs (Packet.Close id to ep h) = is_held_at to ep (grant_in gs h)
+is_entitled gs (Packet.Message to ep h m) = true
+is_entitled gs (Packet.Credit id to h) = true
+is_entitled gs (Packet.Answer id answer) = true
+is_entitled gs (Packet.Install id to ep f) = true
+
+-- ---- the whole
+
+pub record ProperPacket (gs : List Grant) (cs : List Context) (p : Packet) : Type 0 where
+  pub numbers : is_proper p ≡ true
+  pub command : expects (use_of cs (name_of p)) p ≡ true
+  pub entitled : is_entitled gs p ≡ true
+
+pub record ProperContext (c : Context) : Type 0 where
+  pub next : 0 < c.next
+  pub queues : (ep : ℕ) → is_tidy (endpoint c ep) ≡ true
+
+pub record ProperGrant (memory : ℕ) (x : Grant) : Type 0 where
+  pub form : is_form x.fresh ≡ true
+  pub inside : is_inside memory x.fresh ≡ true
+
+pub record IsProper (s : State) : Type 0 where
+  pub contexts : (a : ℕ) (c : Context) → context_of a s.contexts ≡ Some c → ProperContext c
+  pub packets : (id : FlightId) (p : Packet) → flight id s.flights ≡ Some p → ProperPacket s.grants s.contexts p
+  pub grants : (g : ℕ) (x : Grant) → grant_in s.grants g ≡ Some x → ProperGrant (length s.memory) x
+  pub orders : 0 < s.kernel_next
+  pub few : (g : ℕ) (x : Grant) → grant_in s.grants g ≡ Some x → g ≤ 4096
+  pub memory : length s.memory ≤ 1048576
+
+-- a step whose grant line keeps the limits of its numbers
+abbrev pub InLimits : Step → Type 0
+InLimits (Step.Make line) = is_in_limits line ≡ true
+InLimits t = Unit {0}
