@@ -140,7 +140,7 @@ any_more : (a ep : ℕ) (gs : List Grant) (x : Grant) → list_any (holds_at a e
 any_more a ep [] x = grind arith
 any_more a ep (y ∷ gs) x = grind (arith, any_more a ep gs x)
 
-first_free : (a b : Bool) → (a || b) ≡ false → a ≡ false
+pub first_free : (a b : Bool) → (a || b) ≡ false → a ≡ false
 first_free false b e = refl
 first_free true b e = absurd (cc)
 

@@ -60,7 +60,7 @@ module _ (xs : List Home) (tiles : List (Option ℕ)) (are : AreTiles xs tiles) 
 
 -- ---- as the table is read
 
-is_none_of : (r : Option ℕ) → is_some r ≡ false → r ≡ None
+pub is_none_of : (r : Option ℕ) → is_some r ≡ false → r ≡ None
 is_none_of None h = refl
 is_none_of (Some t) h = grind arith
 

@@ -66,11 +66,10 @@ pub record Steps (old : Whole) (e : Event) (new : Whole) : Type 0 where
   pub moved : mstep (site old.setup) old.machine e None ≡ Some (record { outcome = outcome; machine = new.machine })
   pub setup : new.setup ≡ old.setup
 
--- the machine of today makes commands of the setup's activities, and takes
-abbrev pub IsMade : Site → Event → Type 0
-IsMade h (Event.Do a c) = is_home h a ≡ true
-IsMade h (Event.Take to from) = Unit {0}
-IsMade h event = ⊥
+-- a command is of an activity of the setup
+abbrev pub IsOfSetup : Site → Event → Type 0
+IsOfSetup h (Event.Do a c) = is_home h a ≡ true
+IsOfSetup h event = Unit {0}
 
 -- data is at the front
 abbrev pub IsData : List Parcel → Type 0
@@ -78,14 +77,15 @@ IsData [] = ⊥
 IsData (Data p ∷ ps) = Unit {0}
 IsData (q ∷ ps) = ⊥
 
-abbrev pub IsSome_parcel : List Parcel → Type 0
-IsSome_parcel [] = ⊥
-IsSome_parcel (q ∷ ps) = Unit {0}
+abbrev pub HasParcel : List Parcel → Type 0
+HasParcel [] = ⊥
+HasParcel (q ∷ ps) = Unit {0}
 
--- the parcel at the front is for the kernel or the memory, or is no data
+-- the event is no command and no take, or takes a parcel that is for the kernel or the memory or is no data
 abbrev pub IsUnserved : Machine → Event → Type 0
-IsUnserved m (Event.Take to from) = IsSome_parcel (link_at from to m) × (2 ≤ to → IsData (link_at from to m) → ⊥)
-IsUnserved m event = ⊥
+IsUnserved m (Event.Do a c) = ⊥
+IsUnserved m (Event.Take to from) = HasParcel (link_at from to m) × (2 ≤ to → IsData (link_at from to m) → ⊥)
+IsUnserved m event = Unit {0}
 
 abbrev pub IsNamedAt : FlightId → List Parcel → Type 0
 IsNamedAt id [] = ⊥

@@ -2,11 +2,12 @@
 
 ghost use Rattle.std.specs.Prelude.{◌≡◌, ◌≢◌, ◌↔◌, ◌<◌, ◌≤◌, ◌++◌, ◌∷◌, [], true, length, OnOk, OnErr, IfOk, IfErr, Err, vec_len, vec_capacity};
 ghost use Rattle.m3_base.specs.declared.event.Event.{Event};
+ghost use Rattle.m3_base.specs.Setup.{IsValid};
 ghost use Rattle.m3_machine.specs.declared.machine.StepRefusal.{StepRefusal};
 ghost use Rattle.m3_machine.specs.Links.{place, lists_in, pushed, HasRoom};
 ghost use Rattle.m3_machine.specs.Naming.{is_home};
 ghost use Rattle.m3_machine.specs.Parcels.{parcels_of, out_of};
-ghost use Rattle.m3_machine.specs.Whole.{site, entry, out_links, HasRoomFor, IsMade, IsUnserved, HasFront, Steps};
+ghost use Rattle.m3_machine.specs.Whole.{site, entry, out_links, HasRoomFor, IsOfSetup, IsUnserved, HasFront, Steps};
 
 use crate::audit::{credit_lines, tile_lines};
 use crate::links::{Front, Links};
@@ -53,7 +54,8 @@ pub enum StepRefusal {
     Spent,
     /// No memory was left for the entry or for what it moves.
     NoMemory,
-    /// The parcel at the front is for the kernel or for the memory, which take none yet.
+    /// The event is no command and no take, or takes a parcel that is for the kernel or for the memory, which take none
+    /// yet.
     Unserved,
 }
 
@@ -99,6 +101,7 @@ impl Machine {
     /// The machine that a setup describes, with no entry made. Each activity that is the first of its tile is there.
     pub fn open(alloc: Global, setup: Setup) -> Result<Machine, AllocError>
         ensures setup { IfOk result (λ m. m.setup ≡ setup) }
+        ensures valid { IfOk result (λ m. IsValid m.setup) }
         ensures entries { IfOk result (λ m. m.entries ≡ []) }
     {
         let site = Site::new(alloc, setup.memory(), setup.lines())?;
@@ -128,7 +131,7 @@ impl Machine {
     /// Makes one event, and adds its entry. `Spent` comes exactly where the journal has as many entries as it may have.
     /// After a refusal the machine is as before.
     pub fn step(&mut self, alloc: Global, event: Event) -> Result<(), StepRefusal>
-        requires { IsMade (site self.old.setup) event }
+        requires { IsOfSetup (site self.old.setup) event }
         ensures ok { OnOk result (Steps self.old event self.new) }
         ensures err { OnErr result (self.new ≡ self.old) }
         ensures spent { result ≡ Err StepRefusal.Spent ↔ length self.old.entries ≡ 2097152 }
@@ -140,7 +143,7 @@ impl Machine {
         match event {
             Event::Do { act, command } => self.command(alloc, act, command),
             Event::Take { to, from } => self.take(to, from),
-            _ => unreachable!(),
+            _ => Err(StepRefusal::Unserved),
         }
     }
 
