@@ -1,5 +1,15 @@
 //! A script is read, run, and its journal written.
 
+ghost use Rattle.std.specs.Prelude.{◌≡◌, ◌≢◌, ◌⊎◌, ◌≤◌, ◌++◌, List, map, length, OnOk, IfOk, IfSome, Some, None, Err, codes};
+ghost use Rattle.m3_base.specs.Causes.{Rose, Appends, AppendsSome, GivesMore, GivesUpTo};
+ghost use Rattle.m3_machine.specs.Whole.{site};
+ghost use Rattle.m3_script.specs.Rules.{AllNamed};
+ghost use Rattle.m3_script.specs.declared.script.Mode.{Mode};
+ghost use Rattle.m3_script.specs.Scripts.{script_of};
+ghost use Rattle.m3_cmd.specs.declared.words.Form.{Form};
+ghost use Rattle.m3_cmd.specs.Words.{form_of, words_of};
+ghost use Rattle.m3_cmd.specs.Statuses.{usage_line, read_fault_line, too_long_line, bad_script_line, most_bytes, event_of, AreOfSetup, Follows, IsTextOf, IsNoScript, WritesJournal, OfBytes};
+
 use crate::words::{read_form, Form};
 use m3_base::event::Event;
 use m3_base::stream::{read_all, write_all, ReadRefusal, Sink, Source};
@@ -14,29 +24,34 @@ const MOST_BYTES: u32 = 1_048_576;
 const USAGE: &[u8] =
     b"usage: m3x run [--json] | auto [--json] | tiles [--json] | check | show | load N\n";
 
-/// Makes the events, one after the other. False where no memory was left.
-fn make(alloc: Global, machine: &mut Machine, events: Vec<Event>) -> bool {
+/// Makes the events, one after the other.
+fn make(alloc: Global, machine: &mut Machine, events: Vec<Event>) -> Result<(), StepRefusal>
+    requires { AreOfSetup machine.old.setup events.items }
+    ensures { OnOk result (Follows machine.old events.items machine.new) }
+{
     for event in events {
-        if machine.step(alloc, event).is_err() {
-            return false;
-        }
+        machine.step(alloc, event)?;
     }
-    true
+    Ok(())
 }
 
 /// The text of the journal of a machine that made the script's events, or none where no memory was left.
-fn text_of(alloc: Global, script: Script) -> Option<Vec<u8>> {
+fn text_of(alloc: Global, script: Script) -> Option<Vec<u8>>
+    requires { AllNamed script.setup script.events.items }
+    ensures { IfSome result (λ v. IsTextOf script.setup script.events.items v.items) }
+{
     let Script { setup, events } = script;
     let mut machine = Machine::open(alloc, setup).ok()?;
-    if !make(alloc, &mut machine, events) {
-        return None;
-    }
+    make(alloc, &mut machine, events).ok()?;
     let audit = machine.audit(alloc).ok()?;
     print(alloc, machine.journal(), &audit).ok()
 }
 
 /// Writes the bytes, and answers the status, or 4 where the sink failed.
-fn finish<K: Sink>(sink: &mut K, bytes: &[u8], status: u8) -> u8 {
+fn finish<K: Sink>(sink: &mut K, bytes: &[u8], status: u8) -> u8
+    ensures written { result ≢ 4 → (result ≡ status) × Appends (K.written sink.old) (K.written sink.new) bytes.now }
+    ensures fault { status ≢ 4 → result ≡ 4 → Rose (K.faults sink.old) (K.faults sink.new) × AppendsSome (K.written sink.old) (K.written sink.new) bytes.now }
+{
     match write_all(sink, bytes) {
         Ok(()) => status,
         Err(_) => 4,
@@ -44,7 +59,13 @@ fn finish<K: Sink>(sink: &mut K, bytes: &[u8], status: u8) -> u8 {
 }
 
 /// Runs the script that these bytes are, and writes its journal.
-fn run_script<K: Sink>(alloc: Global, bytes: &[u8], sink: &mut K) -> u8 {
+fn run_script<K: Sink>(alloc: Global, bytes: &[u8], sink: &mut K) -> u8
+    requires { length bytes.now ≤ most_bytes }
+    ensures journal { result ≡ 0 → WritesJournal bytes.now (K.written sink.old) (K.written sink.new) }
+    ensures script { result ≡ 2 → IsNoScript bytes.now × Appends (K.written sink.old) (K.written sink.new) bad_script_line }
+    ensures write { result ≡ 4 → Rose (K.faults sink.old) (K.faults sink.new) }
+    ensures statuses { (result ≢ 1) × (result ≢ 3) × (result ≢ 8) }
+{
     match parse(alloc, bytes, Mode::Run, 0) {
         Err(ScriptRefusal::NoMemory) => 5,
         Err(ScriptRefusal::Bad { .. }) => finish(sink, b"bad script\n", 2),
@@ -55,13 +76,30 @@ fn run_script<K: Sink>(alloc: Global, bytes: &[u8], sink: &mut K) -> u8 {
     }
 }
 
-/// Does what the words ask for: reads the source, writes to the sink, and answers the status.
+/// Does what the words ask for: reads the source, writes to the sink, and answers the status:
+///
+/// - 0: the script was run, and its journal is written;
+/// - 1: the words are no form, and the usage line is written;
+/// - 2: the input is no script, and `bad script` is written;
+/// - 3: the source failed, and `read fault` is written;
+/// - 4: the sink failed, and a prefix of what was to be written is. It takes the place of any other status;
+/// - 5: no memory was left;
+/// - 8: the input has more than 1,048,576 bytes, and `too long` is written.
 pub fn run_words<S: Source, K: Sink>(
     alloc: Global,
     words: &[String],
     source: &mut S,
     sink: &mut K,
-) -> u8 {
+) -> u8
+    ensures journal { result ≡ 0 → OfBytes (S.left source.old) (λ bytes. WritesJournal bytes (K.written sink.old) (K.written sink.new)) }
+    ensures usage { result ≡ 1 → (form_of (words_of words.now) ≡ None) × Appends (K.written sink.old) (K.written sink.new) usage_line }
+    ensures no_form { form_of (words_of words.now) ≡ None → (result ≡ 1) ⊎ (result ≡ 4) }
+    ensures script { result ≡ 2 → OfBytes (S.left source.old) IsNoScript × Appends (K.written sink.old) (K.written sink.new) bad_script_line }
+    ensures read { result ≡ 3 → Rose (S.faults source.old) (S.faults source.new) × Appends (K.written sink.old) (K.written sink.new) read_fault_line }
+    ensures write { result ≡ 4 → Rose (K.faults sink.old) (K.faults sink.new) }
+    ensures long { result ≡ 8 → GivesMore (S.left source.old) (S.left source.new) most_bytes × Appends (K.written sink.old) (K.written sink.new) too_long_line }
+    ensures within { form_of (words_of words.now) ≡ Some Form.Run → result ≢ 4 → result ≢ 8 → GivesUpTo (S.left source.old) (S.left source.new) most_bytes }
+{
     match read_form(words) {
         None => finish(sink, USAGE, 1),
         Some(Form::Run) => match read_all(alloc, source, MOST_BYTES) {

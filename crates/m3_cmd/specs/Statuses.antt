@@ -1,0 +1,72 @@
+-- What is written with each status, and when it comes.
+use Rattle.std.specs.Prelude.{◌≡◌, ℕ, List, [], ◌∷◌, ◌++◌, map, Option, Some, None, Result, Ok, Err, codes}
+use Rattle.std.specs.List.{All}
+use Rattle.m3_base.specs.declared.event.Event.{Event}
+use Rattle.m3_base.specs.declared.event.Entry.{Entry}
+use Rattle.m3_base.specs.declared.journal.AuditLine.{AuditLine}
+use Rattle.m3_base.specs.Setup.{SetupValue}
+use Rattle.m3_base.specs.Causes.{Appends}
+use Rattle.m3_machine.specs.Whole.{Whole, site, IsOfSetup}
+use Rattle.m3_script.specs.declared.script.Mode.{Mode}
+use Rattle.m3_script.specs.Scripts.{Refused, script_of}
+use Rattle.m3_journal.specs.Texts.{journal_text}
+
+abbrev pub line_of : List ℕ → List ℕ
+line_of text = text ++ 10 ∷ []
+
+abbrev pub usage_line : List ℕ
+usage_line = line_of (codes "usage: m3x run [--json] | auto [--json] | tiles [--json] | check | show | load N")
+
+abbrev pub read_fault_line : List ℕ
+read_fault_line = line_of (codes "read fault")
+
+abbrev pub too_long_line : List ℕ
+too_long_line = line_of (codes "too long")
+
+abbrev pub bad_script_line : List ℕ
+bad_script_line = line_of (codes "bad script")
+
+abbrev pub most_bytes : ℕ
+most_bytes = 1048576
+
+abbrev pub event_of : Entry → Event
+event_of e = e.event
+
+-- each command is of an activity of the setup
+abbrev pub AreOfSetup : SetupValue → List Event → Type 0
+AreOfSetup s events = All (IsOfSetup (site s)) events
+
+-- the entries of these events were added, in this order
+pub record Follows (old : Whole) (events : List Event) (new : Whole) : Type 0 where
+  pub same : new.setup ≡ old.setup
+  pub added : map event_of new.entries ≡ map event_of old.entries ++ events
+
+-- the text is that of a journal of this setup, whose entries have these events in their order
+pub record IsTextOf (setup : SetupValue) (events : List Event) (text : List ℕ) : Type 0 where
+  pub entries : List Entry
+  pub audit : List AuditLine
+  pub follows : map event_of entries ≡ events
+  pub is_text : text ≡ journal_text setup entries audit
+
+-- the reader refuses the bytes
+pub record IsNoScript (bytes : List ℕ) : Type 0 where
+  pub refused : Refused
+  pub refuses : script_of Mode.Run 0 bytes ≡ Err refused
+
+-- the text is that of a journal of the script's setup and events
+pub record IsJournalOf (bytes text : List ℕ) : Type 0 where
+  pub setup : SetupValue
+  pub events : List Event
+  pub spelled : script_of Mode.Run 0 bytes ≡ Ok (record { setup = setup; events = events })
+  pub is_text : IsTextOf setup events text
+
+-- the journal of the script is written
+pub record WritesJournal (bytes : List ℕ) (old new : Option (List ℕ)) : Type 0 where
+  pub text : List ℕ
+  pub journal : IsJournalOf bytes text
+  pub written : Appends old new text
+
+-- what holds of a source's bytes, where it tells them
+abbrev pub OfBytes : Option (List ℕ) → (List ℕ → Type 0) → Type 0
+OfBytes None P = Unit {0}
+OfBytes (Some bytes) P = P bytes
