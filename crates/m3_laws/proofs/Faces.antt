@@ -24,6 +24,7 @@ use Rattle.m3_laws.specs.Laws.{installs, closes}
 use Rattle.m3_laws.proofs.Counts.{SameFaces, same_faces, faces_then, faces_set}
 use Rattle.m3_laws.proofs.Places.{SameOrders}
 use Rattle.m3_laws.proofs.Placing.{found_new}
+use Rattle.m3_laws.specs.Quiet.{IsData}
 
 pub face_put : (c d : Context) (ep : ℕ) (e : Endpoint) → d.act ≡ c.act → d.endpoints ≡ set c.endpoints ep e → face e ≡ face (endpoint c ep) → SameFaces c d
 face_put c d ep e a q h = record { act = a; faces = ap (map face) q ∙ faces_set c.endpoints ep e h }
@@ -143,12 +144,6 @@ pub answered_faces : (f : Flying) (answer : Answer) (c : Context) → SameFaces 
 answered_faces f answer c = face_put c (answered f answer c) f.ep (settled f.kind f.token answer (endpoint c f.ep)) refl refl (settled_face f.kind f.token answer (endpoint c f.ep))
 
 -- ---- flights
-
--- a packet of an activity
-abbrev pub IsData : Packet → Type 0
-IsData (Packet.Install id to ep f) = ⊥
-IsData (Packet.Close id to ep g) = ⊥
-IsData p = Unit {0}
 
 pub data_counts : (g : ℕ) (p : Packet) → IsData p → (installs g p ≡ false) × (closes g p ≡ false)
 data_counts g (Packet.Message to ep h m) d = (refl, refl)

@@ -170,9 +170,11 @@ module _ (s : State) (law : Invariant s) where
       let lone = found_lone (λ c. how_many (is_at g) c.endpoints) to s.contexts law.lawful.traffic.acts (λ a y e l. let i = some_index g y.endpoints l in (held_where g to ep h a i.0 y e i.1).0) some in
       let same : lone.0 ≡ c = (let z = lone.1.0 in cc) in
       let i = some_index g c.endpoints (subst (λ z. 1 ≤ how_many (is_at g) z.endpoints) same lone.1.1) in
-      let here : is_at g (endpoint c ep) ≡ true = subst (λ k. is_at g (endpoint c k) ≡ true) (held_where g to ep h to i.0 c at i.1).1 i.1 in
-      by_closing here (is_closing (endpoint c ep)) refl
+      by_closing (moved i.0 (held_where g to ep h to i.0 c at i.1).1 i.1) (is_closing (endpoint c ep)) refl
     where
+      moved : (k : ℕ) → k ≡ ep → is_at g (endpoint c k) ≡ true → is_at g (endpoint c ep) ≡ true
+      moved k e is = subst (λ j. is_at g (endpoint c j) ≡ true) e is
+
       by_closing : is_at g (endpoint c ep) ≡ true → (b : Bool) → is_closing (endpoint c ep) ≡ b → has_live g (endpoint c ep) ≡ true
       by_closing is false w = grind (arith, is, w)
       by_closing is true w =

@@ -22,7 +22,8 @@ use Rattle.m3_laws.proofs.Kept.{found_ended}
 use Rattle.m3_laws.specs.Lawful.{ChildOf, QueueLawful, ContextLawful, PacketLawful, Data, IsLawful, GrantsLawful}
 use Rattle.m3_laws.proofs.Places.{faces_placed}
 use Rattle.m3_laws.proofs.Placing.{found_new}
-use Rattle.m3_laws.proofs.Faces.{IsData, orders_ended}
+use Rattle.m3_laws.proofs.Faces.{orders_ended}
+use Rattle.m3_laws.specs.Quiet.{IsData}
 use Rattle.m3_laws.proofs.Data.{credits_keep}
 use Rattle.m3_base.specs.declared.command.Command.{Command}
 use Rattle.m3_base.specs.Context.{SendRecord}
@@ -91,7 +92,7 @@ apart_after c fs i a n new ne h = by_packet i.packet new
     by_packet None w = h
     by_packet (Some p) w = flight-new (record { issuer = a; number = n }) p fs (other p w.0) ∙ h
 
-data_new : (d : Context) (f : Option Flying) (p : Packet) → OwnBack d f p → IsData p
+pub data_new : (d : Context) (f : Option Flying) (p : Packet) → OwnBack d f p → IsData p
 data_new d f (Packet.Message to ep h m) own = tt
 data_new d f (Packet.Credit id to h) own = tt
 data_new d f (Packet.Read id h place buffer) own = tt

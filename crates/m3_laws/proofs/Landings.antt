@@ -23,7 +23,8 @@ use Rattle.m3_laws.proofs.Kept.{found_ended}
 use Rattle.m3_laws.specs.Lawful.{HolderIs, ContextLawful, PacketLawful, CreditsLawful, IsLawful}
 use Rattle.m3_laws.proofs.Counts.{SameFaces, same_faces}
 use Rattle.m3_laws.proofs.Places.{faces_placed}
-use Rattle.m3_laws.proofs.Faces.{IsData, found_changed, orders_changed, orders_ended, taken_faces, credit_faces}
+use Rattle.m3_laws.proofs.Faces.{found_changed, orders_changed, orders_ended, taken_faces, credit_faces}
+use Rattle.m3_laws.specs.Quiet.{IsData}
 use Rattle.m3_laws.proofs.Homing.{home_there}
 use Rattle.m3_laws.proofs.Data.{Leaves, leaves_same, leaves_credit, leaves_taken, data_left, Claimed, credits_keep}
 

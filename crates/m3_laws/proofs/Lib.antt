@@ -33,3 +33,4 @@ pub mod ProperOrders
 pub mod ProperRuns
 pub mod Invariants
 pub mod Fitting
+pub mod Quiets

@@ -247,7 +247,7 @@ grant_started s line low allowed z ok (Some f) e =
     room_for' : (memory : ℕ) (gs : List Grant) (line : GrantLine) → make_refusal memory gs line ≡ None → nat_le 4096 (length gs) ≡ false
     room_for' memory gs line e = grind (arith, e)
 
-granted_flights : (s : State) (line : GrantLine) (o : Option Fresh) → (granted s line o).flights ≡ s.flights
+pub granted_flights : (s : State) (line : GrantLine) (o : Option Fresh) → (granted s line o).flights ≡ s.flights
 granted_flights s line None = refl
 granted_flights s line (Some f) = refl
 

@@ -5,3 +5,4 @@ pub mod Lawful
 pub mod Proper
 pub mod Invariant
 pub mod Held
+pub mod Quiet
