@@ -1,5 +1,5 @@
 -- What is written with each status, and when it comes.
-use Rattle.std.specs.Prelude.{◌≡◌, ℕ, List, [], ◌∷◌, ◌++◌, map, Option, Some, None, Result, Ok, Err, codes}
+use Rattle.std.specs.Prelude.{◌≡◌, ℕ, List, [], ◌∷◌, ◌++◌, map, Option, Some, None, Ok, Err, codes}
 use Rattle.std.specs.List.{All}
 use Rattle.m3_base.specs.declared.event.Event.{Event}
 use Rattle.m3_base.specs.declared.event.Entry.{Entry}
@@ -40,6 +40,11 @@ AreOfSetup s events = All (IsOfSetup (site s)) events
 pub record Follows (old : Whole) (events : List Event) (new : Whole) : Type 0 where
   pub same : new.setup ≡ old.setup
   pub added : map event_of new.entries ≡ map event_of old.entries ++ events
+
+-- the text is that of this machine's journal
+pub record IsTextAt (m : Whole) (text : List ℕ) : Type 0 where
+  pub audit : List AuditLine
+  pub is_text : text ≡ journal_text m.setup m.entries audit
 
 -- the text is that of a journal of this setup, whose entries have these events in their order
 pub record IsTextOf (setup : SetupValue) (events : List Event) (text : List ℕ) : Type 0 where

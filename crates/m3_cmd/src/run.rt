@@ -8,14 +8,14 @@ ghost use Rattle.m3_script.specs.declared.script.Mode.{Mode};
 ghost use Rattle.m3_script.specs.Scripts.{script_of};
 ghost use Rattle.m3_cmd.specs.declared.words.Form.{Form};
 ghost use Rattle.m3_cmd.specs.Words.{form_of, words_of};
-ghost use Rattle.m3_cmd.specs.Statuses.{usage_line, read_fault_line, too_long_line, bad_script_line, most_bytes, event_of, AreOfSetup, Follows, IsTextOf, IsNoScript, WritesJournal, OfBytes};
+ghost use Rattle.m3_cmd.specs.Statuses.{usage_line, read_fault_line, too_long_line, bad_script_line, most_bytes, event_of, AreOfSetup, Follows, IsTextAt, IsTextOf, IsNoScript, WritesJournal, OfBytes};
 
-use crate::words::{read_form, Form};
+use crate::words::{Form, read_form};
 use m3_base::event::Event;
-use m3_base::stream::{read_all, write_all, ReadRefusal, Sink, Source};
+use m3_base::stream::{ReadRefusal, Sink, Source, read_all, write_all};
 use m3_journal::print;
 use m3_machine::machine::{Machine, StepRefusal};
-use m3_script::{parse, Mode, Script, ScriptRefusal};
+use m3_script::{Mode, Script, ScriptRefusal, parse};
 use std::alloc::{AllocError, Global};
 
 /// A script has at most this many bytes.
@@ -35,16 +35,23 @@ fn make(alloc: Global, machine: &mut Machine, events: Vec<Event>) -> Result<(), 
     Ok(())
 }
 
-/// The text of the journal of a machine that made the script's events, or none where no memory was left.
-fn text_of(alloc: Global, script: Script) -> Option<Vec<u8>>
+/// The text of a machine's journal.
+fn printed(alloc: Global, machine: &Machine) -> Result<Vec<u8>, AllocError>
+    ensures { IfOk result (λ v. IsTextAt machine.now v.items) }
+{
+    let audit = machine.audit(alloc)?;
+    print(alloc, machine.journal(), &audit)
+}
+
+/// The text of the journal of a machine that made the script's events.
+fn text_of(alloc: Global, script: Script) -> Result<Vec<u8>, StepRefusal>
     requires { AllNamed script.setup script.events.items }
-    ensures { IfSome result (λ v. IsTextOf script.setup script.events.items v.items) }
+    ensures { IfOk result (λ v. IsTextOf script.setup script.events.items v.items) }
 {
     let Script { setup, events } = script;
-    let mut machine = Machine::open(alloc, setup).ok()?;
-    make(alloc, &mut machine, events).ok()?;
-    let audit = machine.audit(alloc).ok()?;
-    print(alloc, machine.journal(), &audit).ok()
+    let mut machine = Machine::open(alloc, setup)?;
+    make(alloc, &mut machine, events)?;
+    Ok(printed(alloc, &machine)?)
 }
 
 /// Writes the bytes, and answers the status, or 4 where the sink failed.
@@ -70,8 +77,8 @@ fn run_script<K: Sink>(alloc: Global, bytes: &[u8], sink: &mut K) -> u8
         Err(ScriptRefusal::NoMemory) => 5,
         Err(ScriptRefusal::Bad { .. }) => finish(sink, b"bad script\n", 2),
         Ok(script) => match text_of(alloc, script) {
-            None => 5,
-            Some(text) => finish(sink, text.as_slice(), 0),
+            Err(_) => 5,
+            Ok(text) => finish(sink, text.as_slice(), 0),
         },
     }
 }
