@@ -20,7 +20,7 @@ use Rattle.m3_base.specs.Messages.{final}
 use Rattle.m3_laws.specs.Laws.{parent_at, IsPath, Gone, GoneAt, GoneLaw}
 use Rattle.m3_laws.proofs.Counts.{one_found}
 use Rattle.m3_laws.proofs.Places.{record_open}
-use Rattle.m3_laws.proofs.Opened.{always_lawful}
+use Rattle.m3_laws.proofs.Opened.{ever_lawful}
 
 done_closed : (t : Standing) → is_done t ≡ true → is_open t ≡ false
 done_closed Done e = refl
@@ -114,4 +114,4 @@ module _ (s : State) (law : IsLawful s) where
   gone_at r g y x path at d p e = gone_one g x e (path_done r g y x path at d p e)
 
 pub gone_law : GoneLaw
-gone_law memory lines steps o p = gone_at (final (opening memory lines) steps) (always_lawful memory lines steps o p)
+gone_law setup steps o p = gone_at (final (opening setup.memory setup.lines) steps) (ever_lawful setup steps o p)

@@ -14,7 +14,8 @@ use Rattle.m3_base.specs.Context.{Context, endpoint}
 use Rattle.m3_base.specs.Land.{grant_of, is_grant, has_send, land_refusal}
 use Rattle.m3_base.specs.State.{Standing, Live, Closing, Grant, State, context_of, grant_in, holder, holder_ep, parent_of, is_done}
 use Rattle.m3_base.specs.Opening.{opening}
-use Rattle.m3_base.specs.Obeys.{AllObey}
+use Rattle.m3_base.specs.Limits.{is_in_limits}
+use Rattle.m3_base.specs.Setup.{SetupValue, IsValid}
 use Rattle.m3_base.specs.Messages.{final}
 use Rattle.m3_base.specs.Credit.{credits}
 
@@ -29,9 +30,9 @@ limit_of (Fresh.Send g to to_ep to_grant label size limit) = limit
 limit_of (Fresh.Receive g slots size) = 0
 limit_of (Fresh.Memory g start length perm) = 0
 
--- a step whose endpoint is one of 16
+-- a step whose numbers are in their ranges: the endpoint of a grant line is one of 16, and its slots, sizes, credits or bytes keep their limits
 abbrev pub Fits : Step → Type 0
-Fits (Step.Make line) = holder_ep line < 16
+Fits (Step.Make line) = (holder_ep line < 16) × (is_in_limits line ≡ true)
 Fits t = Unit {0}
 
 abbrev pub AllFit : List Step → Type 0
@@ -50,11 +51,9 @@ RecordsAt s = (g : ℕ) (x : Grant) (a ep : ℕ) (c : Context) → grant_in s.gr
 abbrev pub ChildrenAt : State → Type 0
 ChildrenAt s = (g p : ℕ) (x y : Grant) → grant_in s.grants g ≡ Some x → grant_in s.grants p ≡ Some y → parent_of x.line ≡ Some p → is_done y.standing ≡ true → is_done x.standing ≡ true
 
-abbrev pub empty : ℕ → State
-empty memory = opening memory []
-
+-- after every run from the opening of every valid setup
 abbrev pub Always : (State → Type 0) → Type 0
-Always P = (memory : ℕ) (lines : List SetupLine) (steps : List Step) → AllObey (empty memory) lines → AllFit steps → P (final (opening memory lines) steps)
+Always P = (setup : SetupValue) (steps : List Step) → IsValid setup → AllFit steps → P (final (opening setup.memory setup.lines) steps)
 
 abbrev pub CreditLaw : Type 0
 CreditLaw = Always CreditsAt
@@ -103,4 +102,4 @@ GoneLaw = Always GoneAt
 -- from when a grant is done, all under it are gone
 abbrev pub GoneForever : Type 0
 GoneForever =
-    (memory : ℕ) (lines : List SetupLine) (steps more : List Step) → AllObey (empty memory) lines → AllFit steps → AllFit more → (r g : ℕ) (y x : Grant) (path : List ℕ) → grant_in (final (opening memory lines) steps).grants r ≡ Some y → is_done y.standing ≡ true → IsPath (final (opening memory lines) steps).grants r g path → grant_in (final (final (opening memory lines) steps) more).grants g ≡ Some x → Gone (final (final (opening memory lines) steps) more) g x
+    (setup : SetupValue) (steps more : List Step) → IsValid setup → AllFit steps → AllFit more → (r g : ℕ) (y x : Grant) (path : List ℕ) → grant_in (final (opening setup.memory setup.lines) steps).grants r ≡ Some y → is_done y.standing ≡ true → IsPath (final (opening setup.memory setup.lines) steps).grants r g path → grant_in (final (final (opening setup.memory setup.lines) steps) more).grants g ≡ Some x → Gone (final (final (opening setup.memory setup.lines) steps) more) g x

@@ -165,8 +165,3 @@ pub record IsProper (s : State) : Type 0 where
   pub orders : 0 < s.kernel_next
   pub few : (g : ℕ) (x : Grant) → grant_in s.grants g ≡ Some x → g ≤ 4096
   pub memory : length s.memory ≤ 1048576
-
--- a step whose grant line keeps the limits of its numbers
-abbrev pub InLimits : Step → Type 0
-InLimits (Step.Make line) = is_in_limits line ≡ true
-InLimits t = Unit {0}
