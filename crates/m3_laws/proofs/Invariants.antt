@@ -46,3 +46,7 @@ invariant_run s (t ∷ ts) r k law e = by_next (istep s t) refl e (λ n q m. inv
     by_next : (o : Option Next) → istep s t ≡ o → on_from (irun ts) o ≡ Some r → ((n : State) (q : Ran) → Invariant n → irun ts n ≡ Some q → Invariant q.state) → Invariant r.state
     by_next None w e ih = absurd (cc)
     by_next (Some n) w e ih = ran n (irun ts n.state) refl e (λ q. ih n.state q (invariant_step s t n k.0 law w))
+
+-- after every run of every valid setup
+pub invariant_ever : (v : SetupValue) (ts : List Step) → IsValid v → AllFit ts → Invariant (final (opening v.memory v.lines) ts)
+invariant_ever v ts ok k = invariant_final (opening v.memory v.lines) ts k (invariant_opening v ok)

@@ -44,6 +44,7 @@ use Rattle.m3_laws.proofs.Runs.{AllLawful, step_lawful}
 use Rattle.m3_laws.specs.Lawful.{open_at}
 use Rattle.m3_laws.proofs.Placing.{was_open}
 use Rattle.m3_base.specs.Steps.{make_for}
+use Rattle.m3_laws.proofs.Invariants.{invariant_ever, invariant_final}
 
 -- a grant stays, with its line, and a done one stays done
 pub record Lasts (gs ks : List Grant) : Type 0 where
@@ -264,6 +265,7 @@ pub gone_forever : GoneForever
 gone_forever setup steps more o p q r g y x path at d w e =
     let s = final (opening setup.memory setup.lines) steps in
     let law = ever_lawful setup steps o p in
+    let inv = invariant_ever setup steps o p in
     let l = run_last s more law q in
     let z = l.stays r y at in
-    gone_at (final s more) (run_lawful s more law q) r g z.0 x path z.1.0 (z.1.1.1 d) (path_lasts s.grants (final s more).grants l r g path w) e
+    gone_at (final s more) (invariant_final s more q inv) r g z.0 x path z.1.0 (z.1.1.1 d) (path_lasts s.grants (final s more).grants l r g path w) e

@@ -34,3 +34,5 @@ pub mod ProperRuns
 pub mod Invariants
 pub mod Fitting
 pub mod Quiets
+pub mod Used
+pub mod Causes
