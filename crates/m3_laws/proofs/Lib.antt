@@ -36,3 +36,7 @@ pub mod Fitting
 pub mod Quiets
 pub mod Used
 pub mod Causes
+pub mod Alone
+pub mod Order
+pub mod Past
+pub mod Ordered
