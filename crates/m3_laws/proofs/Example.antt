@@ -6,10 +6,9 @@ use Rattle.m3_base.specs.Credit.{credits}
 use Rattle.m3_base.specs.Opening.{opening}
 use Rattle.m3_base.specs.Rows.{delivery_setup}
 use Rattle.m3_base.specs.Obeys.{AllObey}
-use Rattle.m3_laws.specs.Laws.{empty}
 
 -- a setup of the worked rows obeys
-pub row_1_obeys : AllObey (empty 16) delivery_setup
+pub row_1_obeys : AllObey (opening 16 []) delivery_setup
 row_1_obeys = ((refl, omega arith), ((refl, omega arith), ((omega arith, (tt, refl)), ((omega arith, (tt, refl)), tt))))
 
 -- at an endpoint 16 a live grant with limit 2 has no credits

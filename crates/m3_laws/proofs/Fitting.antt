@@ -161,20 +161,23 @@ module _ (s : State) (law : Invariant s) where
       let line : h.grant ≡ k.grant = cc in
       (sym k.act ∙ (ap (λ z. holder z.line) (sym line) ∙ h.act), sym k.endpoint ∙ (ap (λ z. holder_ep z.line) (sym line) ∙ h.endpoint))
 
-  pub close_finds : (id x : FlightId) (to ep g : ℕ) (c : Context) → flight id s.flights ≡ Some (Packet.Close x to ep g) → context_of to s.contexts ≡ Some c → ((j : FlightId) (q : Packet) → flight j s.flights ≡ Some q → installs g q ≡ false) → has_live g (endpoint c ep) ≡ true
-  close_finds id x to ep g c find at alone =
-      let h = close_held id x to ep g find in
-      let none = none_pass (installs g) s.flights (each_found (λ q. installs g q ≡ false) s.flights law.lawful.placed.distinct alone) in
+  pub record_there : (g to ep : ℕ) (c : Context) → HeldThere s.grants g to ep → context_of to s.contexts ≡ Some c → how_many (installs g) s.flights ≡ 0 → is_at g (endpoint c ep) ≡ true
+  record_there g to ep c h at none =
       let op : open_at (grant_in s.grants g) ≡ true = ap open_at h.found ∙ h.stands in
       let some : 1 ≤ total (λ c. how_many (is_at g) c.endpoints) s.contexts = omega (arith, law.lawful.placed.presence g, none, ap one op) in
       let lone = found_lone (λ c. how_many (is_at g) c.endpoints) to s.contexts law.lawful.traffic.acts (λ a y e l. let i = some_index g y.endpoints l in (held_where g to ep h a i.0 y e i.1).0) some in
       let same : lone.0 ≡ c = (let z = lone.1.0 in cc) in
       let i = some_index g c.endpoints (subst (λ z. 1 ≤ how_many (is_at g) z.endpoints) same lone.1.1) in
-      by_closing (moved i.0 (held_where g to ep h to i.0 c at i.1).1 i.1) (is_closing (endpoint c ep)) refl
+      moved i.0 (held_where g to ep h to i.0 c at i.1).1 i.1
     where
       moved : (k : ℕ) → k ≡ ep → is_at g (endpoint c k) ≡ true → is_at g (endpoint c ep) ≡ true
       moved k e is = subst (λ j. is_at g (endpoint c j) ≡ true) e is
 
+  pub close_finds : (id x : FlightId) (to ep g : ℕ) (c : Context) → flight id s.flights ≡ Some (Packet.Close x to ep g) → context_of to s.contexts ≡ Some c → ((j : FlightId) (q : Packet) → flight j s.flights ≡ Some q → installs g q ≡ false) → has_live g (endpoint c ep) ≡ true
+  close_finds id x to ep g c find at alone =
+      let none = none_pass (installs g) s.flights (each_found (λ q. installs g q ≡ false) s.flights law.lawful.placed.distinct alone) in
+      by_closing (record_there g to ep c (close_held id x to ep g find) at none) (is_closing (endpoint c ep)) refl
+    where
       by_closing : is_at g (endpoint c ep) ≡ true → (b : Bool) → is_closing (endpoint c ep) ≡ b → has_live g (endpoint c ep) ≡ true
       by_closing is false w = grind (arith, is, w)
       by_closing is true w =

@@ -20,7 +20,10 @@ use Rattle.m3_base.specs.Messages.{final}
 use Rattle.m3_laws.specs.Laws.{parent_at, IsPath, Gone, GoneAt, GoneLaw}
 use Rattle.m3_laws.proofs.Counts.{one_found}
 use Rattle.m3_laws.proofs.Places.{record_open}
-use Rattle.m3_laws.proofs.Opened.{always_lawful}
+use Rattle.m3_laws.specs.Invariant.{Invariant}
+use Rattle.m3_laws.specs.Laws.{goes_through}
+use Rattle.m3_laws.proofs.Invariants.{invariant_ever}
+use Rattle.m3_laws.proofs.Used.{through_open}
 
 done_closed : (t : Standing) → is_done t ≡ true → is_open t ≡ false
 done_closed Done e = refl
@@ -38,19 +41,23 @@ none_sends g (e ∷ es) h = let z = by_end e (h 0) in let t = none_sends g es (�
     by_end (Receives r) h = refl
     by_end (Reaches r) h = refl
 
-refused_there : (g : ℕ) (m : Message) (e : Endpoint) → is_at g e ≡ false → land_refusal g m e ≡ Some Refusal.Revoked
+pub refused_there : (g : ℕ) (m : Message) (e : Endpoint) → is_at g e ≡ false → land_refusal g m e ≡ Some Refusal.Revoked
 refused_there g m Free h = refl
 refused_there g m (Sends r) h = refl
 refused_there g m (Reaches r) h = refl
 refused_there g m (Receives r) h = grind (arith, h)
 
-module _ (s : State) (law : IsLawful s) where
+module _ (s : State) (inv : Invariant s) where
+  law : IsLawful s
+  law = inv.lawful
+
   gone_one : (g : ℕ) (x : Grant) → grant_in s.grants g ≡ Some x → is_done x.standing ≡ true → Gone s g x
   gone_one g x e d = record {
     done = d;
     records = λ a ep c at. none_at a ep c at;
     installed = λ id p find. by_install id p find (installs g p) refl;
     closed = λ id p find. by_close id p find (closes g p) refl;
+    sent = λ id p find. by_sent id p find (goes_through g p) refl;
     credit = λ a c at. none_sends g c.endpoints (λ i. none_at a i c at);
     reply = λ a ep c m at. refused_there g m (endpoint c ep) (none_at a ep c at);
   }
@@ -71,6 +78,10 @@ module _ (s : State) (law : IsLawful s) where
       by_install : (id : FlightId) (p : Packet) → flight id s.flights ≡ Some p → (b : Bool) → installs g p ≡ b → b ≡ false
       by_install id p find false w = refl
       by_install id p find true w = let n = one_found name_of same_name (installs g) id p s.flights find w in absurd (omega (arith, n, law.placed.presence g, ap one shut))
+
+      by_sent : (id : FlightId) (p : Packet) → flight id s.flights ≡ Some p → (b : Bool) → goes_through g p ≡ b → b ≡ false
+      by_sent id p find false w = refl
+      by_sent id p find true w = let t = through_open s inv g id p find w in let u : open_at (grant_in s.grants g) ≡ false = shut in absurd (cc)
 
       by_close : (id : FlightId) (p : Packet) → flight id s.flights ≡ Some p → (b : Bool) → closes g p ≡ b → b ≡ false
       by_close id p find false w = refl
@@ -114,4 +125,4 @@ module _ (s : State) (law : IsLawful s) where
   gone_at r g y x path at d p e = gone_one g x e (path_done r g y x path at d p e)
 
 pub gone_law : GoneLaw
-gone_law memory lines steps o p = gone_at (final (opening memory lines) steps) (always_lawful memory lines steps o p)
+gone_law setup steps o p = gone_at (final (opening setup.memory setup.lines) steps) (invariant_ever setup steps o p)

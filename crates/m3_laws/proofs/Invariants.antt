@@ -9,7 +9,6 @@ use Rattle.m3_base.specs.Setup.{SetupValue, IsValid}
 use Rattle.m3_base.specs.Messages.{state_after, final}
 use Rattle.m3_base.proofs.Obeying.{valid_obeys}
 use Rattle.m3_laws.specs.Laws.{Fits, AllFit}
-use Rattle.m3_laws.specs.Proper.{InLimits}
 use Rattle.m3_laws.specs.Invariant.{Invariant}
 use Rattle.m3_laws.specs.Lawful.{IsLawful}
 use Rattle.m3_laws.proofs.Runs.{AllLawful, step_lawful}
@@ -19,32 +18,24 @@ use Rattle.m3_laws.proofs.ProperRuns.{AllProper, step_proper, valid_proper}
 pub invariant_opening : (v : SetupValue) → IsValid v → Invariant (opening v.memory v.lines)
 invariant_opening v ok = record { lawful = always_lawful v.memory v.lines [] (valid_obeys v ok) tt; proper = valid_proper v ok }
 
--- a step that stays within the limits of its numbers
-abbrev pub Keeps : Step → Type 0
-Keeps t = Fits t × InLimits t
-
-abbrev pub AllKeep : List Step → Type 0
-AllKeep [] = Unit {0}
-AllKeep (t ∷ ts) = Keeps t × AllKeep ts
-
-pub invariant_step : (s : State) (t : Step) (n : Next) → Keeps t → Invariant s → istep s t ≡ Some n → Invariant n.state
+pub invariant_step : (s : State) (t : Step) (n : Next) → Fits t → Invariant s → istep s t ≡ Some n → Invariant n.state
 invariant_step s t n k law e = record {
-  lawful = subst AllLawful e (step_lawful s t law.lawful k.0);
-  proper = subst AllProper e (step_proper s law.lawful law.proper t k.1);
+  lawful = subst AllLawful e (step_lawful s t law.lawful k);
+  proper = subst AllProper e (step_proper s law.lawful law.proper t k);
 }
 
-pub invariant_after : (s : State) (t : Step) → Keeps t → Invariant s → Invariant (state_after s (istep s t))
+pub invariant_after : (s : State) (t : Step) → Fits t → Invariant s → Invariant (state_after s (istep s t))
 invariant_after s t k law = by_next (istep s t) refl
   where
     by_next : (o : Option Next) → istep s t ≡ o → Invariant (state_after s o)
     by_next None e = law
     by_next (Some n) e = invariant_step s t n k law e
 
-pub invariant_final : (s : State) (ts : List Step) → AllKeep ts → Invariant s → Invariant (final s ts)
+pub invariant_final : (s : State) (ts : List Step) → AllFit ts → Invariant s → Invariant (final s ts)
 invariant_final s [] k law = law
 invariant_final s (t ∷ ts) k law = invariant_final (state_after s (istep s t)) ts k.1 (invariant_after s t k.0 law)
 
-pub invariant_run : (s : State) (ts : List Step) (r : Ran) → AllKeep ts → Invariant s → irun ts s ≡ Some r → Invariant r.state
+pub invariant_run : (s : State) (ts : List Step) (r : Ran) → AllFit ts → Invariant s → irun ts s ≡ Some r → Invariant r.state
 invariant_run s [] r k law e = let q : record { words = []; state = s } ≡ r = cc in subst (λ z. Invariant z.state) q law
 invariant_run s (t ∷ ts) r k law e = by_next (istep s t) refl e (λ n q m. invariant_run n ts q k.1 m)
   where
@@ -55,3 +46,7 @@ invariant_run s (t ∷ ts) r k law e = by_next (istep s t) refl e (λ n q m. inv
     by_next : (o : Option Next) → istep s t ≡ o → on_from (irun ts) o ≡ Some r → ((n : State) (q : Ran) → Invariant n → irun ts n ≡ Some q → Invariant q.state) → Invariant r.state
     by_next None w e ih = absurd (cc)
     by_next (Some n) w e ih = ran n (irun ts n.state) refl e (λ q. ih n.state q (invariant_step s t n k.0 law w))
+
+-- after every run of every valid setup
+pub invariant_ever : (v : SetupValue) (ts : List Step) → IsValid v → AllFit ts → Invariant (final (opening v.memory v.lines) ts)
+invariant_ever v ts ok k = invariant_final (opening v.memory v.lines) ts k (invariant_opening v ok)

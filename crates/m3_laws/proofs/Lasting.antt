@@ -33,7 +33,7 @@ use Rattle.m3_laws.specs.Laws.{parent_at, IsPath, GoneForever}
 use Rattle.m3_laws.proofs.Tree.{Changes, at_one, grant_added, grant_past}
 use Rattle.m3_laws.proofs.Ordering.{closing_changes, one_changes}
 use Rattle.m3_laws.proofs.Placing.{to_root, to_sent}
-use Rattle.m3_laws.proofs.Opened.{always_lawful}
+use Rattle.m3_laws.proofs.Opened.{ever_lawful}
 use Rattle.m3_laws.proofs.Runs.{run_lawful}
 use Rattle.m3_laws.proofs.Gone.{gone_at}
 use Rattle.std.proofs.Common.{◌++◌, ◌-◌, arith}
@@ -44,6 +44,7 @@ use Rattle.m3_laws.proofs.Runs.{AllLawful, step_lawful}
 use Rattle.m3_laws.specs.Lawful.{open_at}
 use Rattle.m3_laws.proofs.Placing.{was_open}
 use Rattle.m3_base.specs.Steps.{make_for}
+use Rattle.m3_laws.proofs.Invariants.{invariant_ever, invariant_final}
 
 -- a grant stays, with its line, and a done one stays done
 pub record Lasts (gs ks : List Grant) : Type 0 where
@@ -261,9 +262,10 @@ path_lasts gs ks l r g (q ∷ ps) p = (by_grant (grant_in gs g) refl p.0, path_l
     by_grant (Some x) e h = let y = l.stays g x e in ap parent_at y.1.0 ∙ (ap parent_of y.1.1.0 ∙ h)
 
 pub gone_forever : GoneForever
-gone_forever memory lines steps more o p q r g y x path at d w e =
-    let s = final (opening memory lines) steps in
-    let law = always_lawful memory lines steps o p in
+gone_forever setup steps more o p q r g y x path at d w e =
+    let s = final (opening setup.memory setup.lines) steps in
+    let law = ever_lawful setup steps o p in
+    let inv = invariant_ever setup steps o p in
     let l = run_last s more law q in
     let z = l.stays r y at in
-    gone_at (final s more) (run_lawful s more law q) r g z.0 x path z.1.0 (z.1.1.1 d) (path_lasts s.grants (final s more).grants l r g path w) e
+    gone_at (final s more) (invariant_final s more q inv) r g z.0 x path z.1.0 (z.1.1.1 d) (path_lasts s.grants (final s more).grants l r g path w) e

@@ -34,3 +34,9 @@ pub mod ProperRuns
 pub mod Invariants
 pub mod Fitting
 pub mod Quiets
+pub mod Used
+pub mod Causes
+pub mod Alone
+pub mod Order
+pub mod Past
+pub mod Ordered

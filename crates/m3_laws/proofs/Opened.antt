@@ -31,8 +31,10 @@ use Rattle.m3_base.specs.Opening.{opening, with_line, with_lines, granted, insta
 use Rattle.m3_base.specs.Messages.{final}
 use Rattle.m3_base.proofs.Sorting.{find-new}
 use Rattle.m3_laws.proofs.Landing.{same_act-is}
+use Rattle.m3_base.specs.Setup.{SetupValue, IsValid}
+use Rattle.m3_base.proofs.Obeying.{valid_obeys}
 use Rattle.m3_base.specs.Obeys.{Obeys, AllObey, Declared}
-use Rattle.m3_laws.specs.Laws.{AllFit, CreditLaw, RecordLaw, ChildrenLaw, empty}
+use Rattle.m3_laws.specs.Laws.{AllFit, CreditLaw, RecordLaw, ChildrenLaw}
 use Rattle.m3_laws.specs.Lawful.{FormLawful, form_of}
 use Rattle.m3_laws.proofs.Orders.{made_lawful, install_lawful}
 use Rattle.m3_laws.proofs.Runs.{run_lawful}
@@ -224,7 +226,7 @@ lines_early s (l ∷ ls) o early = lines_early (with_line s l) ls o.1 (line_earl
 pub no_grant : (g : ℕ) → grant_in [] g ≡ None
 no_grant g = grind (arith, nat_tests)
 
-empty_early : (memory : ℕ) → Early (empty memory)
+empty_early : (memory : ℕ) → Early (opening memory [])
 empty_early memory = record {
   law = record {
     placed = record {
@@ -244,34 +246,37 @@ empty_early memory = record {
   live = λ g x e. absurd (let z = no_grant g in cc);
 }
 
-pub always_lawful : (memory : ℕ) (lines : List SetupLine) (steps : List Step) → AllObey (empty memory) lines → AllFit steps → IsLawful (final (opening memory lines) steps)
-always_lawful memory lines steps o p = run_lawful (opening memory lines) steps (lines_early (empty memory) lines o (empty_early memory)).law p
+pub always_lawful : (memory : ℕ) (lines : List SetupLine) (steps : List Step) → AllObey (opening memory []) lines → AllFit steps → IsLawful (final (opening memory lines) steps)
+always_lawful memory lines steps o p = run_lawful (opening memory lines) steps (lines_early (opening memory []) lines o (empty_early memory)).law p
+
+pub ever_lawful : (setup : SetupValue) (steps : List Step) → IsValid setup → AllFit steps → IsLawful (final (opening setup.memory setup.lines) steps)
+ever_lawful setup steps v p = always_lawful setup.memory setup.lines steps (valid_obeys setup v) p
 
 -- ---- the laws
 
 pub credit_law : CreditLaw
-credit_law memory lines steps o p g x e z =
-    let l = (always_lawful memory lines steps o p).credits g in
-    subst (λ y. CreditsLawful y (credits g (final (opening memory lines) steps))) e l z
+credit_law setup steps o p g x e z =
+    let l = (ever_lawful setup steps o p).credits g in
+    subst (λ y. CreditsLawful y (credits g (final (opening setup.memory setup.lines) steps))) e l z
 
 pub record_law : RecordLaw
-record_law memory lines steps o p g x a ep c e z at = by_is (is_at g (endpoint c ep)) refl
+record_law setup steps o p g x a ep c e z at = by_is (is_at g (endpoint c ep)) refl
   where
-    law : IsLawful (final (opening memory lines) steps)
-    law = always_lawful memory lines steps o p
+    law : IsLawful (final (opening setup.memory setup.lines) steps)
+    law = ever_lawful setup steps o p
 
     by_is : (b : Bool) → is_at g (endpoint c ep) ≡ b → b ≡ false
     by_is false w = refl
     by_is true w =
-        let t = record_open (final (opening memory lines) steps) law.placed g a ep c at w in
-        let u : open_at (grant_in (final (opening memory lines) steps).grants g) ≡ false = ap open_at e ∙ z in
+        let t = record_open (final (opening setup.memory setup.lines) steps) law.placed g a ep c at w in
+        let u : open_at (grant_in (final (opening setup.memory setup.lines) steps).grants g) ≡ false = ap open_at e ∙ z in
         absurd (cc)
 
 pub children_law : ChildrenLaw
-children_law memory lines steps o p g q x y e w u d = by_done (is_done x.standing) refl
+children_law setup steps o p g q x y e w u d = by_done (is_done x.standing) refl
   where
-    law : IsLawful (final (opening memory lines) steps)
-    law = always_lawful memory lines steps o p
+    law : IsLawful (final (opening setup.memory setup.lines) steps)
+    law = ever_lawful setup steps o p
 
     done_closed : (t : Standing) → is_done t ≡ true → is_open t ≡ false
     done_closed Done e = refl
@@ -282,6 +287,6 @@ children_law memory lines steps o p g q x y e w u d = by_done (is_done x.standin
     by_done : (b : Bool) → is_done x.standing ≡ b → b ≡ true
     by_done true v = refl
     by_done false v =
-        let r : KeepsOpen (final (opening memory lines) steps).grants (Some q) = subst (KeepsOpen (final (opening memory lines) steps).grants) u ((law.placed.grants g x e).above v) in
+        let r : KeepsOpen (final (opening setup.memory setup.lines) steps).grants (Some q) = subst (KeepsOpen (final (opening setup.memory setup.lines) steps).grants) u ((law.placed.grants g x e).above v) in
         let t : is_open y.standing ≡ false = done_closed y.standing d in
         absurd (grind (arith, r, w, t))

@@ -23,7 +23,7 @@ use Rattle.m3_laws.specs.Lawful.{form_of, face}
 use Rattle.m3_laws.proofs.Counts.{SameFaces, some_at}
 use Rattle.m3_laws.proofs.Faces.{face_put}
 use Rattle.m3_laws.proofs.ProperSteps.{same_grant, tidy_set}
-use Rattle.m3_laws.specs.Proper.{Use, use_by, expects, is_proper, are_messages, are_fetched, is_tidy, is_covered, is_entitled, uses_send, uses_read, uses_write, ProperContext}
+use Rattle.m3_laws.specs.Proper.{Use, use_by, expects, is_proper, are_messages, are_fetched, is_tidy, is_covered, is_sent_as, is_entitled, uses_send, uses_read, uses_write, ProperContext}
 
 -- a record's grant, with its form and number in their ranges
 pub record Recorded (gs : List Grant) (f : Fresh) : Type 0 where
@@ -104,6 +104,12 @@ module _ (gs : List Grant) (c : Context) (ready : Ready gs c) where
       let next = ready.proper.next in
       grind (arith, nat_tests, size, number, place, short, next)
 
+  sent_as : (ep : ℕ) (payload : List ℕ) (to : Option ℕ) (r : SendRecord) → endpoint c ep ≡ Sends r → send_refusal c r payload to ≡ None → is_sent_as r.to r.to_ep r.to_grant (length payload) (grant_in gs r.grant) ≡ true
+  sent_as ep payload to r at w =
+      let k = ready.records ep (Fresh.Send r.grant r.to r.to_ep r.to_grant r.label r.size r.limit) (ap form_of at) in
+      let short : nat_lt r.size (length payload) ≡ false = grind (arith, w) in
+      rw (k.found) (rw (k.fresh) (grind (arith, nat_tests, short)))
+
   sent : (ep : ℕ) (payload : List ℕ) (to : Option ℕ) (r : SendRecord) → endpoint c ep ≡ Sends r → (why : Option Refusal) → send_refusal c r payload to ≡ why → Emits gs c (unless why c (record { told = Told.Flies (next_id c); packet = Some (send_packet c r payload to); context = with_endpoint (launched c Sending ep 0) ep (Sends (less_one r)) }))
   sent ep payload to r at (Some why) w = stays _ refl refl
   sent ep payload to r at None w =
@@ -113,7 +119,7 @@ module _ (gs : List Grant) (c : Context) (ready : Ready gs c) where
       let grant : grant_of (endpoint c ep) ≡ Some r.grant = ap grant_of at in
       record {
         context = set_proper d ep (Sends (less_one r)) refl (omega arith) refl;
-        packet = (send_message ep payload to r at w, (ap (uses_send r.grant) used ∙ grind (arith, nat_tests, grant), refl));
+        packet = (send_message ep payload to r at w, (ap (uses_send r.grant) used ∙ grind (arith, nat_tests, grant), sent_as ep payload to r at w));
       }
 
   send_emits : (ep : ℕ) (payload : List ℕ) (to : Option ℕ) (e : Endpoint) → endpoint c ep ≡ e → Emits gs c (send c ep payload to e)

@@ -36,7 +36,8 @@ use Rattle.m3_laws.proofs.Opened.{find_inserted, free_at, no_grant}
 use Rattle.m3_laws.proofs.ProperSteps.{proper_put, use_put}
 use Rattle.m3_laws.proofs.ProperLandings.{issue_proper, rests_credit, proper_ended, message_proper, proper_served, covered_inside, written_length, take_short}
 use Rattle.m3_laws.proofs.ProperOrders.{rests_install, rests_close, answer_proper, revoke_proper, done_proper, closed_proper, sent_proper, made_proper, line_proper, proper_undone, proper_grown, set_tidy, opened_tidy}
-use Rattle.m3_laws.specs.Proper.{Use, use_of, gets, expects, uses_read, uses_write, is_proper, is_tidy, is_inside, ProperPacket, ProperContext, ProperGrant, IsProper, InLimits}
+use Rattle.m3_laws.specs.Proper.{Use, use_of, gets, expects, uses_read, uses_write, is_proper, is_tidy, is_inside, ProperPacket, ProperContext, ProperGrant, IsProper}
+use Rattle.m3_laws.specs.Laws.{Fits}
 
 abbrev pub AllProper : Option Next → Type 0
 AllProper None = Unit {0}
@@ -177,12 +178,12 @@ module _ (s : State) (law : IsLawful s) (ok : IsProper s) where
       by_test true = done_proper s g ok
       by_test false = tt
 
-  pub step_proper : (t : Step) → InLimits t → AllProper (istep s t)
+  pub step_proper : (t : Step) → Fits t → AllProper (istep s t)
   step_proper (Step.Issue a c) p = issue_step a c (context_of a s.contexts) refl
   step_proper (Step.Await a ep) p = await_step ep (context_of a s.contexts)
   step_proper (Step.Land id) p = land_step id (flight id s.flights) refl
   step_proper (Step.Answered id) p = answered_step id (flight id s.flights)
-  step_proper (Step.Make line) p = make_for_step line p (context_of (holder line) s.contexts)
+  step_proper (Step.Make line) p = make_for_step line p.1 (context_of (holder line) s.contexts)
   step_proper (Step.Revoke g) p = revoke_step g (revoke_refusal (grant_in s.grants g))
   step_proper (Step.Close g) p = send_close_step g (grant_in s.grants g) refl
   step_proper (Step.Closed g) p = closed_step g (grant_in s.grants g)

@@ -19,7 +19,7 @@ use Rattle.m3_laws.proofs.Sound.{found_after}
 use Rattle.m3_laws.specs.Lawful.{form_of}
 use Rattle.m3_laws.proofs.Counts.{SameFaces, same_form}
 use Rattle.m3_laws.proofs.Tree.{Changes, grant_added, grant_past}
-use Rattle.m3_laws.specs.Proper.{Use, use_by, use_in, use_of, expects, is_proper, is_tidy, is_covered, is_held_at, is_entitled, ProperPacket, ProperContext, ProperGrant, IsProper}
+use Rattle.m3_laws.specs.Proper.{Use, use_by, use_in, use_of, expects, is_proper, is_tidy, is_covered, is_held_at, is_sent_as, is_entitled, ProperPacket, ProperContext, ProperGrant, IsProper}
 
 -- ---- what commands use
 
@@ -68,6 +68,12 @@ module _ (gs ks : List Grant) (l : Lasts gs ks) where
       let y = l g x e in
       rw (y.1.0) (rw (y.1.1.1) h)
 
+  sent_lasts : (to ep h len g : ℕ) (o : Option Grant) → grant_in gs g ≡ o → is_sent_as to ep h len o ≡ true → is_sent_as to ep h len (grant_in ks g) ≡ true
+  sent_lasts to ep h len g None e w = absurd (cc)
+  sent_lasts to ep h len g (Some x) e w =
+      let y = l g x e in
+      rw (y.1.0) (rw (y.1.1.1) w)
+
   held_lasts : (a ep g : ℕ) (o : Option Grant) → grant_in gs g ≡ o → is_held_at a ep o ≡ true → is_held_at a ep (grant_in ks g) ≡ true
   held_lasts a ep g None e h = absurd (cc)
   held_lasts a ep g (Some x) e h =
@@ -78,7 +84,11 @@ module _ (gs ks : List Grant) (l : Lasts gs ks) where
   entitled_lasts (Packet.Read id h place buffer) e = covered_lasts place (length buffer) Perm.R h (grant_in gs h) refl e
   entitled_lasts (Packet.Write id h place payload) e = covered_lasts place (length payload) Perm.W h (grant_in gs h) refl e
   entitled_lasts (Packet.Close id to ep h) e = held_lasts to ep h (grant_in gs h) refl e
-  entitled_lasts (Packet.Message to ep h m) e = refl
+  entitled_lasts (Packet.Message to ep h m) e = by_flags (m.header.flags == 0) e
+    where
+      by_flags : (b : Bool) → (if b then is_sent_as to ep h (length m.payload) (grant_in gs m.header.send) else true) ≡ true → (if b then is_sent_as to ep h (length m.payload) (grant_in ks m.header.send) else true) ≡ true
+      by_flags true e = sent_lasts to ep h (length m.payload) m.header.send (grant_in gs m.header.send) refl e
+      by_flags false e = refl
   entitled_lasts (Packet.Credit id to h) e = refl
   entitled_lasts (Packet.Answer id answer) e = refl
   entitled_lasts (Packet.Install id to ep f) e = refl

@@ -31,7 +31,8 @@ use Rattle.m3_laws.proofs.Placing.{found_new, to_closed, to_done}
 use Rattle.m3_laws.proofs.Faces.{found_changed}
 use Rattle.m3_laws.proofs.Issued.{data_new}
 use Rattle.m3_laws.proofs.ProperRuns.{granted_flights}
-use Rattle.m3_laws.proofs.Invariants.{Keeps, AllKeep, invariant_step}
+use Rattle.m3_laws.specs.Laws.{Fits}
+use Rattle.m3_laws.proofs.Invariants.{invariant_step}
 
 abbrev pub QuietNext : Option Next → Type 0
 QuietNext None = Unit {0}
@@ -151,16 +152,16 @@ module _ (s : State) (law : IsLawful s) (quiet : Quiet s) where
 
 -- ---- runs
 
-quiet_keeps : (t : Step) → IsQuietStep t → Keeps t
-quiet_keeps (Step.Issue a c) q = (tt, tt)
-quiet_keeps (Step.Await a ep) q = (tt, tt)
-quiet_keeps (Step.Land id) q = (tt, tt)
-quiet_keeps (Step.Answered id) q = (tt, tt)
+quiet_keeps : (t : Step) → IsQuietStep t → Fits t
+quiet_keeps (Step.Issue a c) q = tt
+quiet_keeps (Step.Await a ep) q = tt
+quiet_keeps (Step.Land id) q = tt
+quiet_keeps (Step.Answered id) q = tt
 quiet_keeps (Step.Make line) q = absurd q
-quiet_keeps (Step.Revoke g) q = (tt, tt)
+quiet_keeps (Step.Revoke g) q = tt
 quiet_keeps (Step.Close g) q = absurd q
-quiet_keeps (Step.Closed g) q = (tt, tt)
-quiet_keeps (Step.Done g) q = (tt, tt)
+quiet_keeps (Step.Closed g) q = tt
+quiet_keeps (Step.Done g) q = tt
 
 -- the invariant of states in which the kernel's packets don't fly
 pub record QuietInvariant (s : State) : Type 0 where

@@ -1,6 +1,5 @@
 -- The laws of runs with orders.
-use Rattle.std.specs.Prelude.{◌≡◌, ℕ, ◌<◌, ◌==◌, Bool, true, false, List, [], ◌∷◌, Option, Some, None}
-use Rattle.std.specs.List.{list_any}
+use Rattle.std.specs.Prelude.{◌≡◌, ℕ, ◌<◌, ◌==◌, ◌&&◌, Bool, true, false, List, [], ◌∷◌, Option, Some, None}
 use Rattle.m3_base.specs.declared.step.Step.{Step}
 use Rattle.m3_base.specs.declared.setup_line.SetupLine.{SetupLine}
 use Rattle.m3_base.specs.declared.packet.Fresh.{Fresh}
@@ -14,9 +13,19 @@ use Rattle.m3_base.specs.Context.{Context, endpoint}
 use Rattle.m3_base.specs.Land.{grant_of, is_grant, has_send, land_refusal}
 use Rattle.m3_base.specs.State.{Standing, Live, Closing, Grant, State, context_of, grant_in, holder, holder_ep, parent_of, is_done}
 use Rattle.m3_base.specs.Opening.{opening}
-use Rattle.m3_base.specs.Obeys.{AllObey}
+use Rattle.m3_base.specs.Limits.{is_in_limits}
+use Rattle.m3_base.specs.Setup.{SetupValue, IsValid}
 use Rattle.m3_base.specs.Messages.{final}
-use Rattle.m3_base.specs.Credit.{credits}
+use Rattle.m3_base.specs.Credit.{credits, Granted}
+use Rattle.std.specs.List.{list_any}
+use Rattle.std.specs.Prelude.{length}
+use Rattle.m3_base.specs.declared.packet.Perm.{Perm}
+use Rattle.m3_base.specs.declared.command.Command.{Command}
+use Rattle.m3_base.specs.declared.command.Reply.{Reply}
+use Rattle.m3_base.specs.Context.{Endpoint, Free, Sends, Receives, Reaches}
+use Rattle.m3_base.specs.Receive.{is_full}
+use Rattle.m3_base.specs.Issue.{Told}
+use Rattle.m3_base.specs.Steps.{At_issue, Next, istep}
 
 -- live or closing
 abbrev pub is_open : Standing → Bool
@@ -29,9 +38,9 @@ limit_of (Fresh.Send g to to_ep to_grant label size limit) = limit
 limit_of (Fresh.Receive g slots size) = 0
 limit_of (Fresh.Memory g start length perm) = 0
 
--- a step whose endpoint is one of 16
+-- a step whose numbers are in their ranges: the endpoint of a grant line is one of 16, and its slots, sizes, credits or bytes keep their limits
 abbrev pub Fits : Step → Type 0
-Fits (Step.Make line) = holder_ep line < 16
+Fits (Step.Make line) = (holder_ep line < 16) × (is_in_limits line ≡ true)
 Fits t = Unit {0}
 
 abbrev pub AllFit : List Step → Type 0
@@ -50,11 +59,9 @@ RecordsAt s = (g : ℕ) (x : Grant) (a ep : ℕ) (c : Context) → grant_in s.gr
 abbrev pub ChildrenAt : State → Type 0
 ChildrenAt s = (g p : ℕ) (x y : Grant) → grant_in s.grants g ≡ Some x → grant_in s.grants p ≡ Some y → parent_of x.line ≡ Some p → is_done y.standing ≡ true → is_done x.standing ≡ true
 
-abbrev pub empty : ℕ → State
-empty memory = opening memory []
-
+-- after every run from the opening of every valid setup
 abbrev pub Always : (State → Type 0) → Type 0
-Always P = (memory : ℕ) (lines : List SetupLine) (steps : List Step) → AllObey (empty memory) lines → AllFit steps → P (final (opening memory lines) steps)
+Always P = (setup : SetupValue) (steps : List Step) → IsValid setup → AllFit steps → P (final (opening setup.memory setup.lines) steps)
 
 abbrev pub CreditLaw : Type 0
 CreditLaw = Always CreditsAt
@@ -84,12 +91,24 @@ abbrev pub closes : ℕ → Packet → Bool
 closes g (Packet.Close id to ep h) = h == g
 closes g packet = false
 
+-- a message that is no reply, a read or a write, by its grant
+abbrev pub goes_through : ℕ → Packet → Bool
+goes_through g (Packet.Message to ep h m) = (m.header.flags == 0) && (m.header.send == g)
+goes_through g (Packet.Read id h place buffer) = h == g
+goes_through g (Packet.Write id h place payload) = h == g
+goes_through g (Packet.Credit id to h) = false
+goes_through g (Packet.Answer id answer) = false
+goes_through g (Packet.Install id to ep f) = false
+goes_through g (Packet.Close id to ep h) = false
+
 -- nothing is left of the grant g but its line, and what comes late for it is discarded or refused
 pub record Gone (s : State) (g : ℕ) (x : Grant) : Type 0 where
   pub done : is_done x.standing ≡ true
   pub records : (a ep : ℕ) (c : Context) → context_of a s.contexts ≡ Some c → is_grant g (grant_of (endpoint c ep)) ≡ false
   pub installed : (id : FlightId) (p : Packet) → flight id s.flights ≡ Some p → installs g p ≡ false
   pub closed : (id : FlightId) (p : Packet) → flight id s.flights ≡ Some p → closes g p ≡ false
+  -- nothing that was sent through it flies, so no byte is read or written through it
+  pub sent : (id : FlightId) (p : Packet) → flight id s.flights ≡ Some p → goes_through g p ≡ false
   pub credit : (a : ℕ) (c : Context) → context_of a s.contexts ≡ Some c → has_send g c ≡ false
   pub reply : (a ep : ℕ) (c : Context) (m : Message) → context_of a s.contexts ≡ Some c → land_refusal g m (endpoint c ep) ≡ Some Refusal.Revoked
 
@@ -103,4 +122,53 @@ GoneLaw = Always GoneAt
 -- from when a grant is done, all under it are gone
 abbrev pub GoneForever : Type 0
 GoneForever =
-    (memory : ℕ) (lines : List SetupLine) (steps more : List Step) → AllObey (empty memory) lines → AllFit steps → AllFit more → (r g : ℕ) (y x : Grant) (path : List ℕ) → grant_in (final (opening memory lines) steps).grants r ≡ Some y → is_done y.standing ≡ true → IsPath (final (opening memory lines) steps).grants r g path → grant_in (final (final (opening memory lines) steps) more).grants g ≡ Some x → Gone (final (final (opening memory lines) steps) more) g x
+    (setup : SetupValue) (steps more : List Step) → IsValid setup → AllFit steps → AllFit more → (r g : ℕ) (y x : Grant) (path : List ℕ) → grant_in (final (opening setup.memory setup.lines) steps).grants r ≡ Some y → is_done y.standing ≡ true → IsPath (final (opening setup.memory setup.lines) steps).grants r g path → grant_in (final (final (opening setup.memory setup.lines) steps) more).grants g ≡ Some x → Gone (final (final (opening setup.memory setup.lines) steps) more) g x
+
+-- ---- granted bytes
+
+-- the bytes of each read and write that flies, and so of each that lands, are granted by its grant, with that permission
+abbrev pub AccessAt : State → Type 0
+AccessAt s =
+    ((id x : FlightId) (g place : ℕ) (buffer : List ℕ) → flight id s.flights ≡ Some (Packet.Read x g place buffer) → Granted s g place (length buffer) Perm.R)
+    × ((id x : FlightId) (g place : ℕ) (payload : List ℕ) → flight id s.flights ≡ Some (Packet.Write x g place payload) → Granted s g place (length payload) Perm.W)
+
+abbrev pub AccessLaw : Type 0
+AccessLaw = Always AccessAt
+
+-- ---- causes of refusal
+
+-- the codes that a send can get where it is issued
+abbrev pub IsSendCause : Refusal → Type 0
+IsSendCause Refusal.NoEndpoint = Unit {0}
+IsSendCause Refusal.Revoked = Unit {0}
+IsSendCause Refusal.BadReplyEndpoint = Unit {0}
+IsSendCause Refusal.TooLarge = Unit {0}
+IsSendCause Refusal.NoCredits = Unit {0}
+IsSendCause why = ⊥
+
+abbrev pub SendCauses : Type 0
+SendCauses = (s : State) (a ep : ℕ) (payload : List ℕ) (to : Option ℕ) (n : Next) (why : Refusal) → istep s (Step.Issue a (Command.Send ep payload to)) ≡ Some n → n.word ≡ At_issue (Told.Gives (Reply.Refused why)) → IsSendCause why
+
+abbrev pub has_no_slot : Endpoint → Bool
+has_no_slot (Receives r) = is_full r
+has_no_slot Free = false
+has_no_slot (Sends r) = false
+has_no_slot (Reaches r) = false
+
+-- why a message is refused: the Install of its receive grant hasn't landed, or the buffer is full
+abbrev pub land_cause : Bool → Bool → Option Refusal
+land_cause true full = Some Refusal.Revoked
+land_cause false true = Some Refusal.Full
+land_cause false false = None
+
+-- each message that is no reply and flies is refused exactly so, if it lands now
+abbrev pub LandCausesAt : State → Type 0
+LandCausesAt s =
+    (id : FlightId) (to ep h : ℕ) (m : Message) (c : Context)
+    → flight id s.flights ≡ Some (Packet.Message to ep h m)
+    → (m.header.flags == 0) ≡ true
+    → context_of to s.contexts ≡ Some c
+    → land_refusal h m (endpoint c ep) ≡ land_cause (list_any (installs h) s.flights) (has_no_slot (endpoint c ep))
+
+abbrev pub LandCauses : Type 0
+LandCauses = Always LandCausesAt

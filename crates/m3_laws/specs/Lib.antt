@@ -6,3 +6,4 @@ pub mod Proper
 pub mod Invariant
 pub mod Held
 pub mod Quiet
+pub mod Order

@@ -1,0 +1,9 @@
+pub mod Lookups
+pub mod Alike
+pub mod Sending
+pub mod Judging
+pub mod Making
+pub mod Finishing
+pub mod Opening
+pub mod Marks
+pub mod Revoking

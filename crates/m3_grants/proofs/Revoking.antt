@@ -1,0 +1,257 @@
+-- A revoke, grant after grant, closes what is marked.
+use Rattle.std.proofs.Common.{◌≡◌, ℕ, zero, suc, ◌+◌, ◌-◌, ◌<◌, ◌≤◌, Bool, true, false, ◌&&◌, ◌||◌, List, [], ◌∷◌, ◌++◌, length, Some, None, refl, sym, ◌∙◌, ap, subst, arith}
+use Rattle.std.specs.Prelude.{Option, if◌then◌else◌, ◌==◌, nat_lt, not, slice_get, slice_set}
+use Rattle.std.proofs.lemmas.Option.{slice_get_past, slice_get_within}
+use Rattle.std.proofs.lemmas.Bool.Decides.{nat_tests}
+use Rattle.m3_base.specs.State.{Standing, Live, Closing, Grant, grant_in, undone, parent_of, is_live, is_done}
+use Rattle.m3_base.specs.Grants.{is_marked, or_false, to_closing, closing_where, revoked, change_grant}
+use Rattle.m3_grants.specs.declared.node.Node.{Node}
+use Rattle.m3_grants.specs.declared.node.Stage.{Stage}
+use Rattle.m3_grants.specs.Tree.{is_live_in}
+use Rattle.m3_grants.specs.Nodes.{as_grant, grants_of, grant_of, standing_of, IsTree, Counts, with_node, root_node, is_before, is_live_above, is_rightful, is_live_stage, close_if, close_where, is_closing_node, is_under_closing, is_reached, close_next, AllRightful}
+use Rattle.m3_grants.proofs.Lookups.{found, get_with_node, length_with_node, on_node, grants_changed, length_grants}
+use Rattle.m3_grants.proofs.Alike.{Alike, alike_same, Keeps, keeps_same, rightful_kept, tree_alike, by_number}
+use Rattle.m3_grants.proofs.Sending.{get_changed, counts_changed}
+use Rattle.m3_grants.proofs.Marks.{marks_of, mark, mark_is}
+
+-- ---- place by place
+
+pub get_close : (bs : List Bool) (nodes : List Node) (k : ℕ) → slice_get (close_where bs nodes) k ≡ on_node (close_if (or_false (slice_get bs k))) (slice_get nodes k)
+get_close [] nodes k = by_node (slice_get nodes k)
+  where
+    by_node : (o : Option Node) → o ≡ on_node (close_if false) o
+    by_node None = refl
+    by_node (Some x) = refl
+get_close (b ∷ bs) [] k = refl
+get_close (b ∷ bs) (x ∷ xs) zero = refl
+get_close (b ∷ bs) (x ∷ xs) (suc k) = get_close bs xs k
+
+pub length_close : (bs : List Bool) (nodes : List Node) → length (close_where bs nodes) ≡ length nodes
+length_close [] nodes = refl
+length_close (b ∷ bs) [] = refl
+length_close (b ∷ bs) (x ∷ xs) = grind (arith, length_close bs xs)
+
+same_places : {X : Type 0} (xs ys : List X) → ((k : ℕ) → slice_get xs k ≡ slice_get ys k) → xs ≡ ys
+same_places [] [] h = refl
+same_places [] (y ∷ ys) h = absurd (let z = h 0 in cc)
+same_places (x ∷ xs) [] h = absurd (let z = h 0 in cc)
+same_places (x ∷ xs) (y ∷ ys) h =
+    let head : x ≡ y = let z = h 0 in grind (arith, z) in
+    let later : xs ≡ ys = same_places xs ys (λ k. h (suc k)) in
+    rw (head, later) refl
+
+-- ---- one grant after the other
+
+-- those before this place are closed where they are marked, and the others are as they were
+abbrev pub Reached : ℕ → ℕ → List Node → List Node → Type 0
+Reached g i old now = (k : ℕ) → slice_get now k ≡ (if nat_lt k i then on_node (close_if (mark g (grants_of old) k)) (slice_get old k) else slice_get old k)
+
+pub reached_none : (g : ℕ) (old now : List Node) → now ≡ old → Reached g 0 old now
+reached_none g old now e k = let past : nat_lt k 0 ≡ false = grind (arith, nat_tests) in rw (past, e) refl
+
+pub reached_all : (g n : ℕ) (old now : List Node) → length old ≤ n → Reached g n old now → now ≡ close_where (marks_of g (grants_of old)) old
+reached_all g n old now h r = same_places now (close_where (marks_of g (grants_of old)) old) (λ k. r k ∙ (by_place k (nat_lt k n) refl ∙ sym (get_close (marks_of g (grants_of old)) old k)))
+  where
+    by_place : (k : ℕ) (b : Bool) → nat_lt k n ≡ b → (if b then on_node (close_if (mark g (grants_of old) k)) (slice_get old k) else slice_get old k) ≡ on_node (close_if (mark g (grants_of old) k)) (slice_get old k)
+    by_place k true e = refl
+    by_place k false e = let past : slice_get old k ≡ None = slice_get_past old k (let z : n ≤ k = grind (arith, nat_tests, e) in omega (arith, h, z)) in rw past refl
+
+live_stage : (x : Node) → is_live (standing_of x.stage) ≡ is_live_stage x.stage
+live_stage x = by_stage x.stage
+  where
+    by_stage : (s : Stage) → is_live (standing_of s) ≡ is_live_stage s
+    by_stage Stage.Live = refl
+    by_stage Stage.Closing = refl
+    by_stage Stage.Done = refl
+
+closed_parent : (b : Bool) (o : Option Node) → is_live_in (grant_of o) ≡ true → is_closing_node (on_node (close_if b) o) ≡ b
+closed_parent b None e = absurd (cc)
+closed_parent b (Some x) e = by_stage b x.stage refl e
+  where
+    by_stage : (b : Bool) (s : Stage) → x.stage ≡ s → is_live (standing_of x.stage) ≡ true → is_closing_node (Some (close_if b x)) ≡ b
+    by_stage true Stage.Live w e = grind (arith, w)
+    by_stage false Stage.Live w e = grind (arith, w)
+    by_stage b Stage.Closing w e = absurd (grind (arith, w, e))
+    by_stage b Stage.Done w e = absurd (grind (arith, w, e))
+
+under_marked : (g i : ℕ) (old now : List Node) (p : Option ℕ) → Reached g i old now → is_before p i ≡ true → is_live_above (grants_of old) p ≡ true → is_under_closing now p ≡ is_marked p (marks_of g (grants_of old))
+under_marked g i old now None r b l = refl
+under_marked g i old now (Some p) r b l =
+    let within : nat_lt (p - 1) i ≡ true = grind (arith, nat_tests, b) in
+    let some : (p == 0) ≡ false = grind (arith, nat_tests, b) in
+    let there : is_live_in (slice_get (grants_of old) (p - 1)) ≡ true = subst (λ c. is_live_in (if c then None else slice_get (grants_of old) (p - 1)) ≡ true) some l in
+    let live : is_live_in (grant_of (slice_get old (p - 1))) ≡ true = subst (λ o. is_live_in o ≡ true) (found old (p - 1)) there in
+    let at : slice_get now (p - 1) ≡ on_node (close_if (mark g (grants_of old) (p - 1))) (slice_get old (p - 1)) = r (p - 1) ∙ rw within refl in
+    ap is_closing_node at ∙ closed_parent (mark g (grants_of old) (p - 1)) (slice_get old (p - 1)) live
+
+close_same : (g i : ℕ) (old now : List Node) (o : Option Node) → AllRightful (grants_of old) → Reached g i old now → slice_get old i ≡ o → on_node (λ x. close_if (is_reached now g i (parent_of x.line)) x) o ≡ on_node (close_if (mark g (grants_of old) i)) o
+close_same g i old now None right r e = refl
+close_same g i old now (Some x) right r e = by_live (is_live_stage x.stage) refl
+  where
+    at : slice_get (grants_of old) i ≡ Some (as_grant x)
+    at = found old i ∙ ap grant_of e
+
+    this : is_rightful (grants_of old) i (Some (as_grant x)) ≡ true
+    this = subst (λ o. is_rightful (grants_of old) i o ≡ true) at (right i)
+
+    by_live : (b : Bool) → is_live_stage x.stage ≡ b → on_node (λ y. close_if (is_reached now g i (parent_of y.line)) y) (Some x) ≡ on_node (close_if (mark g (grants_of old) i)) (Some x)
+    by_live false w =
+        let still : (b : Bool) → close_if b x ≡ x = λ b. grind (arith, w) in
+        ap Some (still (is_reached now g i (parent_of x.line)) ∙ sym (still (mark g (grants_of old) i)))
+    by_live true w =
+        let live : is_live (standing_of x.stage) ≡ true = live_stage x ∙ w in
+        let before : is_before (parent_of x.line) i ≡ true = grind (arith, this) in
+        let above : is_live_above (grants_of old) (parent_of x.line) ≡ true = grind (arith, this, live) in
+        let same : is_reached now g i (parent_of x.line) ≡ mark g (grants_of old) i = ap (λ c. (i + 1 == g) || c) (under_marked g i old now (parent_of x.line) r before above) ∙ sym (mark_is g (grants_of old) i (as_grant x) at before) in
+        ap (λ b. Some (close_if b x)) same
+
+pub reached_next : (g i : ℕ) (old now next : List Node) → AllRightful (grants_of old) → Reached g i old now → next ≡ close_next now g i → Reached g (i + 1) old next
+reached_next g i old now next right r e k =
+    ap (λ ns. slice_get ns k) e ∙ (get_with_node now (λ x. close_if (is_reached now g i (parent_of x.line)) x) i k ∙ by_place (k == i) refl)
+  where
+    here : slice_get now i ≡ slice_get old i
+    here = let past : nat_lt i i ≡ false = grind (arith, nat_tests) in r i ∙ rw past refl
+
+    by_place : (b : Bool) → (k == i) ≡ b → (if b then on_node (λ x. close_if (is_reached now g i (parent_of x.line)) x) (slice_get now i) else slice_get now k) ≡ (if nat_lt k (i + 1) then on_node (close_if (mark g (grants_of old) k)) (slice_get old k) else slice_get old k)
+    by_place true w =
+        let s : k ≡ i = grind (arith, nat_tests, w) in
+        let within : nat_lt i (i + 1) ≡ true = grind (arith, nat_tests) in
+        let same : on_node (λ x. close_if (is_reached now g i (parent_of x.line)) x) (slice_get now i) ≡ on_node (close_if (mark g (grants_of old) i)) (slice_get old i) = ap (on_node (λ x. close_if (is_reached now g i (parent_of x.line)) x)) here ∙ close_same g i old now (slice_get old i) right r refl in
+        rw (s, within) same
+    by_place false w = let s : nat_lt k i ≡ nat_lt k (i + 1) = by_less (nat_lt k i) refl in rw (sym s) (r k)
+      where
+        by_less : (b : Bool) → nat_lt k i ≡ b → nat_lt k i ≡ nat_lt k (i + 1)
+        by_less true v = grind (arith, nat_tests, v)
+        by_less false v = grind (arith, nat_tests, v, w)
+
+set_same : (nodes : List Node) (i : ℕ) (x : Node) → slice_get nodes i ≡ Some x → slice_set nodes i x ≡ nodes
+set_same [] i x e = absurd (cc)
+set_same (y ∷ ys) zero x e = grind (arith, e)
+set_same (y ∷ ys) (suc i) x e = grind (arith, set_same ys i x e)
+
+-- where nothing closes, all is as it was
+pub nothing_closes : (nodes : List Node) (g i : ℕ) (x : Node) → slice_get nodes i ≡ Some x → (is_reached nodes g i (parent_of x.line) && is_live_stage x.stage) ≡ false → nodes ≡ close_next nodes g i
+nothing_closes nodes g i x e n =
+    let still : close_if (is_reached nodes g i (parent_of x.line)) x ≡ x = rw n refl in
+    rw e (rw still (sym (set_same nodes i x e)))
+
+-- ---- the grants
+
+close_grant : (b : Bool) (x : Node) → as_grant (close_if b x) ≡ to_closing b (as_grant x)
+close_grant b x = by_stage b x.stage refl
+  where
+    by_stage : (b : Bool) (s : Stage) → x.stage ≡ s → as_grant (close_if b x) ≡ to_closing b (as_grant x)
+    by_stage true Stage.Live w = grind (arith, w)
+    by_stage true Stage.Closing w = grind (arith, w)
+    by_stage true Stage.Done w = grind (arith, w)
+    by_stage false s w = refl
+
+grants_close : (bs : List Bool) (nodes : List Node) → grants_of (close_where bs nodes) ≡ closing_where bs (grants_of nodes)
+grants_close [] nodes = refl
+grants_close (b ∷ bs) [] = refl
+grants_close (b ∷ bs) (x ∷ xs) = rw (close_grant b x, grants_close bs xs) refl
+
+abbrev pub on_grant : (Grant → Grant) → Option Grant → Option Grant
+on_grant f None = None
+on_grant f (Some x) = Some (f x)
+
+grant_closed : (g : ℕ) (nodes : List Node) (k : ℕ) → slice_get (grants_of (close_where (marks_of g (grants_of nodes)) nodes)) k ≡ on_grant (to_closing (mark g (grants_of nodes) k)) (slice_get (grants_of nodes) k)
+grant_closed g nodes k = found (close_where (marks_of g (grants_of nodes)) nodes) k ∙ (ap grant_of (get_close (marks_of g (grants_of nodes)) nodes k) ∙ (by_node (slice_get nodes k) ∙ ap (on_grant (to_closing (mark g (grants_of nodes) k))) (sym (found nodes k))))
+  where
+    by_node : (o : Option Node) → grant_of (on_node (close_if (mark g (grants_of nodes) k)) o) ≡ on_grant (to_closing (mark g (grants_of nodes) k)) (grant_of o)
+    by_node None = refl
+    by_node (Some x) = ap Some (close_grant (mark g (grants_of nodes) k) x)
+
+alike_closed : (b : Bool) (o : Option Grant) → Alike o (on_grant (to_closing b) o)
+alike_closed b None = tt
+alike_closed b (Some x) = by_standing b x.standing refl
+  where
+    by_standing : (b : Bool) (s : Standing) → x.standing ≡ s → Alike (Some x) (Some (to_closing b x))
+    by_standing false s w = (refl, (refl, refl))
+    by_standing true Standing.Live w = rw w (refl, (refl, grind (arith, w)))
+    by_standing true Standing.Closing w = rw w (refl, (refl, grind (arith, w)))
+    by_standing true Standing.Closed w = rw w (refl, (refl, grind (arith, w)))
+    by_standing true Standing.Done w = rw w (refl, (refl, grind (arith, w)))
+
+counts_closed : (b : Bool) (n : ℕ) (o : Option Node) → Counts n o → Counts n (on_node (close_if b) o)
+counts_closed b n None h = h
+counts_closed b n (Some x) h = by_live (b && is_live_stage x.stage)
+  where
+    by_live : (c : Bool) → (if c then record x { stage = Stage.Closing } else x).children ≡ n
+    by_live true = h
+    by_live false = h
+
+live_after : (g : ℕ) (nodes : List Node) (p : Option ℕ) → is_live_above (grants_of nodes) p ≡ true → is_marked p (marks_of g (grants_of nodes)) ≡ false → is_live_above (grants_of (close_where (marks_of g (grants_of nodes)) nodes)) p ≡ true
+live_after g nodes None l m = refl
+live_after g nodes (Some zero) l m = absurd (cc)
+live_after g nodes (Some (suc p)) l m =
+    let e : suc p - 1 ≡ p = omega arith in
+    let unmarked : mark g (grants_of nodes) p ≡ false = subst (λ k. mark g (grants_of nodes) k ≡ false) e m in
+    let was : is_live_in (slice_get (grants_of nodes) p) ≡ true = subst (λ o. is_live_in o ≡ true) (by_number (grants_of nodes) p) l in
+    rw (by_number (grants_of (close_where (marks_of g (grants_of nodes)) nodes)) p, grant_closed g nodes p, unmarked) (by_grant (slice_get (grants_of nodes) p) was)
+  where
+    by_grant : (o : Option Grant) → is_live_in o ≡ true → is_live_in (on_grant (to_closing false) o) ≡ true
+    by_grant None v = absurd (cc)
+    by_grant (Some x) v = v
+
+rightful_closed : (g : ℕ) (nodes : List Node) (i : ℕ) (o : Option Grant) → slice_get (grants_of nodes) i ≡ o → is_rightful (grants_of nodes) i o ≡ true → is_rightful (grants_of (close_where (marks_of g (grants_of nodes)) nodes)) i (on_grant (to_closing (mark g (grants_of nodes) i)) o) ≡ true
+rightful_closed g nodes i None e r = refl
+rightful_closed g nodes i (Some x) e r = by_live (is_live x.standing) (mark g (grants_of nodes) i) refl refl
+  where
+    before : is_before (parent_of x.line) i ≡ true
+    before = grind (arith, r)
+
+    by_live : (b c : Bool) → is_live x.standing ≡ b → mark g (grants_of nodes) i ≡ c → is_rightful (grants_of (close_where (marks_of g (grants_of nodes)) nodes)) i (Some (to_closing (mark g (grants_of nodes) i) x)) ≡ true
+    by_live false c w m = let still : to_closing (mark g (grants_of nodes) i) x ≡ x = grind (arith, w) in rw still (grind (arith, before, w))
+    by_live true true w m = rw m (grind (arith, before, w))
+    by_live true false w m =
+        let unmarked : is_marked (parent_of x.line) (marks_of g (grants_of nodes)) ≡ false = by_or (i + 1 == g) (is_marked (parent_of x.line) (marks_of g (grants_of nodes))) (sym (mark_is g (grants_of nodes) i x e before) ∙ m) in
+        let above : is_live_above (grants_of nodes) (parent_of x.line) ≡ true = grind (arith, r, w) in
+        let sent : x.close_sent ≡ false = grind (arith, r, w) in
+        let after : is_live_above (grants_of (close_where (marks_of g (grants_of nodes)) nodes)) (parent_of x.line) ≡ true = live_after g nodes (parent_of x.line) above unmarked in
+        rw (m, before, w, after, sent) refl
+      where
+        by_or : (b c : Bool) → (b || c) ≡ false → c ≡ false
+        by_or true c v = absurd (cc)
+        by_or false c v = v
+
+tree_closed : (nodes : List Node) (table : List (Option ℕ)) (memory g : ℕ) → IsTree nodes table memory → IsTree (close_where (marks_of g (grants_of nodes)) nodes) table memory
+tree_closed nodes table memory g t =
+    let news = close_where (marks_of g (grants_of nodes)) nodes in
+    tree_alike nodes news table memory t (length_close (marks_of g (grants_of nodes)) nodes)
+    (λ i. subst (Alike (slice_get (grants_of nodes) i)) (sym (grant_closed g nodes i)) (alike_closed (mark g (grants_of nodes) i) (slice_get (grants_of nodes) i)))
+    (λ i n h. subst (Counts n) (sym (get_close (marks_of g (grants_of nodes)) nodes i)) (counts_closed (mark g (grants_of nodes) i) n (slice_get nodes i) h))
+    (λ i. subst (λ o. is_rightful (grants_of news) i o ≡ true) (sym (grant_closed g nodes i)) (rightful_closed g nodes i (slice_get (grants_of nodes) i) refl (t.rightful i)))
+
+-- ---- the root
+
+alike_root : (o : Option Node) → Alike (grant_of o) (grant_of (on_node root_node o))
+alike_root None = tt
+alike_root (Some x) = (refl, (refl, refl))
+
+keeps_root : (o : Option Node) → Keeps (grant_of o) (grant_of (on_node root_node o))
+keeps_root None = tt
+keeps_root (Some x) = (refl, (refl, refl))
+
+counts_root : (n : ℕ) (o : Option Node) → Counts n o → Counts n (on_node root_node o)
+counts_root n None h = h
+counts_root n (Some x) h = h
+
+pub tree_revoked : (nodes : List Node) (table : List (Option ℕ)) (memory g : ℕ) → IsTree nodes table memory → IsTree (with_node (close_where (marks_of g (grants_of nodes)) nodes) (g - 1) root_node) table memory
+tree_revoked nodes table memory g t =
+    let mid = close_where (marks_of g (grants_of nodes)) nodes in
+    let news = with_node mid (g - 1) root_node in
+    let k : IsTree mid table memory = tree_closed nodes table memory g t in
+    tree_alike mid news table memory k (length_with_node mid root_node (g - 1))
+    (get_changed Alike mid root_node (g - 1) alike_same (alike_root (slice_get mid (g - 1))))
+    (counts_changed mid root_node (g - 1) counts_root)
+    (rightful_kept (grants_of mid) (grants_of news) (get_changed Keeps mid root_node (g - 1) keeps_same (keeps_root (slice_get mid (g - 1)))) k.rightful)
+
+pub grants_revoked : (nodes : List Node) (g : ℕ) → 0 < g → grants_of (with_node (close_where (marks_of g (grants_of nodes)) nodes) (g - 1) root_node) ≡ revoked (grants_of nodes) g
+grants_revoked nodes g h =
+    grants_changed (close_where (marks_of g (grants_of nodes)) nodes) root_node (λ x. record x { is_root = true }) g h (λ x. refl)
+    ∙ ap (λ gs. change_grant gs g (λ x. record x { is_root = true })) (grants_close (marks_of g (grants_of nodes)) nodes)
+
+pub some_undone : (gs : List Grant) (g : ℕ) (x : Grant) → undone (grant_in gs g) ≡ Some x → 0 < g
+some_undone gs zero x e = absurd (cc)
+some_undone gs (suc g) x e = omega arith

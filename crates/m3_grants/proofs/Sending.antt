@@ -1,0 +1,55 @@
+-- A grant's Close is sent.
+use Rattle.std.proofs.Common.{◌≡◌, ℕ, zero, suc, ◌+◌, ◌-◌, ◌<◌, ◌≤◌, Bool, true, false, List, length, Some, None, refl, sym, ◌∙◌, ap, subst, arith}
+use Rattle.std.specs.Prelude.{Option, if◌then◌else◌, ◌==◌, slice_get}
+use Rattle.std.proofs.lemmas.Bool.Decides.{nat_tests}
+use Rattle.m3_base.specs.State.{Grant}
+use Rattle.m3_base.specs.Grants.{may_close}
+use Rattle.m3_base.specs.Places.{least_closing}
+use Rattle.m3_grants.specs.declared.node.Node.{Node}
+use Rattle.m3_grants.specs.declared.node.Stage.{Stage}
+use Rattle.m3_grants.specs.Nodes.{as_grant, grants_of, grant_of, IsTree, Counts, with_node, sent_node}
+use Rattle.m3_grants.proofs.Lookups.{found, get_with_node, length_with_node, on_node, least_due}
+use Rattle.m3_grants.proofs.Alike.{Alike, alike_same, Keeps, keeps_same, rightful_kept, tree_alike}
+
+-- one grant changed, and the others not
+pub get_changed : (P : Option Grant → Option Grant → Type 0) (nodes : List Node) (f : Node → Node) (i : ℕ) → ((o : Option Grant) → P o o) → P (grant_of (slice_get nodes i)) (grant_of (on_node f (slice_get nodes i))) → (k : ℕ) → P (slice_get (grants_of nodes) k) (slice_get (grants_of (with_node nodes i f)) k)
+get_changed P nodes f i same here k = rw (found nodes k, found (with_node nodes i f) k, get_with_node nodes f i k) (by_place (k == i) refl)
+  where
+    by_place : (b : Bool) → (k == i) ≡ b → P (grant_of (slice_get nodes k)) (grant_of (if b then on_node f (slice_get nodes i) else slice_get nodes k))
+    by_place true w = let s : k ≡ i = grind (arith, nat_tests, w) in subst (λ j. P (grant_of (slice_get nodes j)) (grant_of (on_node f (slice_get nodes i)))) (sym s) here
+    by_place false w = same (grant_of (slice_get nodes k))
+
+pub counts_changed : (nodes : List Node) (f : Node → Node) (i : ℕ) → ((n : ℕ) (o : Option Node) → Counts n o → Counts n (on_node f o)) → (k n : ℕ) → Counts n (slice_get nodes k) → Counts n (slice_get (with_node nodes i f) k)
+counts_changed nodes f i same k n h = rw (get_with_node nodes f i k) (by_place (k == i) refl)
+  where
+    by_place : (b : Bool) → (k == i) ≡ b → Counts n (if b then on_node f (slice_get nodes i) else slice_get nodes k)
+    by_place true w = let s : k ≡ i = grind (arith, nat_tests, w) in same n (slice_get nodes i) (subst (λ j. Counts n (slice_get nodes j)) s h)
+    by_place false w = h
+
+counts_sent : (n : ℕ) (o : Option Node) → Counts n o → Counts n (on_node sent_node o)
+counts_sent n None h = h
+counts_sent n (Some x) h = h
+
+alike_sent : (o : Option Node) → Alike (grant_of o) (grant_of (on_node sent_node o))
+alike_sent None = tt
+alike_sent (Some x) = (refl, (refl, refl))
+
+keeps_sent : (all : List Grant) (g : ℕ) (o : Option Node) → may_close all g (grant_of o) ≡ true → Keeps (grant_of o) (grant_of (on_node sent_node o))
+keeps_sent all g None e = tt
+keeps_sent all g (Some x) e = by_stage x.stage refl
+  where
+    by_stage : (s : Stage) → x.stage ≡ s → Keeps (Some (as_grant x)) (Some (as_grant (sent_node x)))
+    by_stage Stage.Live w = absurd (grind (arith, w, e))
+    by_stage Stage.Closing w = (refl, (refl, grind (arith, w)))
+    by_stage Stage.Done w = (refl, (refl, grind (arith, w)))
+
+pub tree_sent : (nodes : List Node) (table : List (Option ℕ)) (memory g : ℕ) → IsTree nodes table memory → least_closing (grants_of nodes) 1 (grants_of nodes) ≡ Some g → IsTree (with_node nodes (g - 1) sent_node) table memory
+tree_sent nodes table memory g t e =
+    let due : may_close (grants_of nodes) g (slice_get (grants_of nodes) (g - 1)) ≡ true = (least_due (grants_of nodes) 1 (grants_of nodes) g e).1 in
+    let here : may_close (grants_of nodes) g (grant_of (slice_get nodes (g - 1))) ≡ true = subst (λ o. may_close (grants_of nodes) g o ≡ true) (found nodes (g - 1)) due in
+    let news = with_node nodes (g - 1) sent_node in
+    let keeps : (i : ℕ) → Keeps (slice_get (grants_of nodes) i) (slice_get (grants_of news) i) = get_changed Keeps nodes sent_node (g - 1) keeps_same (keeps_sent (grants_of nodes) g (slice_get nodes (g - 1)) here) in
+    tree_alike nodes news table memory t (length_with_node nodes sent_node (g - 1))
+    (get_changed Alike nodes sent_node (g - 1) alike_same (alike_sent (slice_get nodes (g - 1))))
+    (counts_changed nodes sent_node (g - 1) counts_sent)
+    (rightful_kept (grants_of nodes) (grants_of news) keeps t.rightful)

@@ -1,0 +1,23 @@
+use Rattle.std.proofs.Common.{arith, ◌+◌, ◌-◌, ◌<◌, ◌≡◌, [], Some, None, Option, List, subst, sym, refl, ◌∙◌, ap}
+use Rattle.m3_base.specs.State.{Grant, grant_in, undone}
+use Rattle.m3_base.specs.Grants.{revoked}
+use Rattle.m3_grants.specs.Tree.{GrantTree}
+use Rattle.m3_grants.specs.Nodes.{IsTree, grants_of, as_grant, with_node, root_node, close_where}
+use Rattle.m3_grants.proofs.Lookups.{tree_of}
+use Rattle.m3_grants.proofs.Marks.{marks_of}
+use Rattle.m3_grants.proofs.Revoking.{tree_revoked, grants_revoked, some_undone}
+use Rattle.m3_grants.proofs.grants.Grants.revoke.Goals as goal
+
+pub invariant_of-self : goal.invariant_of-self
+invariant_of-self c =
+    let nodes = c.self.inside.nodes.items in
+    let made : c.mark_root.new.nodes.items ≡ with_node (close_where (marks_of c.args.g (grants_of nodes)) nodes) (c.args.g - 1) root_node = c.mark_root.ensures.items ∙ ap (λ ns. with_node ns (c.args.g - 1) root_node) c.close_under.ensures.items in
+    rw made (tree_revoked nodes c.self.inside.held.items c.self.inside.memory c.args.g c.self.invariant)
+
+pub returns-else-not-matches-clause-ok : goal.returns-else-not-matches-clause-ok
+returns-else-not-matches-clause-ok c =
+    let nodes = c.self.inside.nodes.items in
+    let made : c.mark_root.new.nodes.items ≡ with_node (close_where (marks_of c.args.g (grants_of nodes)) nodes) (c.args.g - 1) root_node = c.mark_root.ensures.items ∙ ap (λ ns. with_node ns (c.args.g - 1) root_node) c.close_under.ensures.items in
+    let some : 0 < c.args.g = some_undone c.args.self.now.grants c.args.g (as_grant c.in-Some.node) (c.in-Some.ensures).0 in
+    let P : GrantTree → Type 0 = λ t. tree_of c.self.inside.memory (grants_of c.mark_root.new.nodes.items) ≡ tree_of t.memory (revoked t.grants c.args.g) in
+    subst P c.self.view_is (ap (tree_of c.self.inside.memory) (ap grants_of made ∙ grants_revoked nodes c.args.g some))

@@ -1,0 +1,20 @@
+use Rattle.std.proofs.Common.{true, ◌≡◌, ℕ, ◌+◌, ◌-◌, ◌<◌, ◌≤◌, Some, subst, sym, refl, ap, ◌∙◌, arith}
+use Rattle.m3_base.specs.State.{Grant}
+use Rattle.m3_base.specs.Places.{least_closing}
+use Rattle.m3_grants.specs.Tree.{GrantTree, with_sent}
+use Rattle.m3_grants.specs.Nodes.{grants_of, IsTree, with_node, sent_node}
+use Rattle.m3_grants.proofs.Lookups.{tree_of, grants_changed, least_due}
+use Rattle.m3_grants.proofs.Sending.{tree_sent}
+use Rattle.m3_grants.proofs.grants.Grants.sent.Goals as goal
+
+pub invariant_of-self : goal.invariant_of-self
+invariant_of-self c =
+    let P : GrantTree → Type 0 = λ t. least_closing t.grants 1 t.grants ≡ Some c.args.g → IsTree (with_node c.self.inside.nodes.items (c.args.g - 1) sent_node) c.self.inside.held.items c.self.inside.memory in
+    rw c.mark_sent.ensures.items (subst P c.self.view_is (tree_sent c.self.inside.nodes.items c.self.inside.held.items c.self.inside.memory c.args.g c.self.invariant) c.requires)
+
+pub returns : goal.returns
+returns c =
+    let P : GrantTree → Type 0 = λ t. least_closing t.grants 1 t.grants ≡ Some c.args.g → tree_of c.self.inside.memory (grants_of c.mark_sent.new.nodes.items) ≡ tree_of t.memory (with_sent t.grants c.args.g) in
+    subst P c.self.view_is (λ e.
+    let some : 0 < c.args.g = let z = (least_due (grants_of c.self.inside.nodes.items) 1 (grants_of c.self.inside.nodes.items) c.args.g e).0 in omega (arith, z) in
+    ap (tree_of c.self.inside.memory) (ap grants_of c.mark_sent.ensures.items ∙ grants_changed c.self.inside.nodes.items sent_node (λ x. record x { close_sent = true }) c.args.g some (λ x. refl))) c.requires

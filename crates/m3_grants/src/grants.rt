@@ -1,0 +1,439 @@
+//! The tree of grants.
+
+ghost use Rattle.std.specs.Prelude.{◌≡◌, true, false, ℕ, ◌+◌, ◌-◌, ◌*◌, ◌<◌, ◌≤◌, ◌&&◌, ◌||◌, nat_le, [], length, IfOk, OnOk, OnErr, None, Some, is_some, vec_len, vec_capacity, slice_get, slice_index_or};
+ghost use Rattle.std.specs.List.{list_any};
+ghost use Rattle.m3_base.specs.Grants.{form, make_refusal, revoke_refusal, revoked, marks_under, holds_at, may_close};
+ghost use Rattle.m3_base.specs.Places.{least_closing};
+ghost use Rattle.m3_base.specs.Setup.{facts_of};
+ghost use Rattle.m3_base.specs.State.{grant_in, undone, parent_of, parent_in, is_live};
+ghost use Rattle.m3_grants.specs.Tree.{cause_in, cause_of, above, with_made, Allows, after_line, fresh_in, line_in, holder_in, is_live_in, IsHeld, IsChildless, is_sent_in, is_undone_in, with_sent, with_done, root_of};
+ghost use Rattle.m3_grants.specs.Nodes.{Stands, StandsAbove, FitsUnder, crowds, under_parent, has_room_under, has_child_under, one_more, one_less, sent_node, done_node, root_node, with_node, first_due, grants_of, AllRightful, is_under_closing, is_live_stage, is_reached, close_next, close_where};
+
+use crate::form;
+use crate::node::{Node, Stage};
+use crate::refusal::GrantRefusal;
+use m3_base::ids::{ActId, EpId, GrantId};
+use m3_base::order::GrantLine;
+use m3_base::packet::Fresh;
+use m3_base::setup::Setup;
+use m3_base::setup_line::SetupLine;
+use std::alloc::{AllocError, Global};
+use std::marker::Model;
+
+/// All grants that were made, in the order of their numbers.
+#[derive(Debug, Drop)]
+pub struct Grants {
+    memory: u32,
+    nodes: Vec<Node>,
+    // at 16 * activity + endpoint, the grant there that isn't done
+    held: Vec<Option<GrantId>>,
+}
+
+impl Model for Grants {
+    ghost use Rattle.m3_grants.specs.Tree.{GrantTree};
+    ghost use Rattle.m3_grants.specs.Nodes.{grants_of, IsTree};
+
+    ghost Value = { GrantTree };
+
+    ghost view = { λ s. record { memory = s.memory; grants = grants_of s.nodes.items } };
+
+    ghost invariant = { λ s. IsTree s.nodes.items s.held.items s.memory };
+}
+
+// Where an endpoint stands in the table.
+fn slot(act: ActId, ep: EpId) -> usize
+    ensures at { result ≡ 16 * act + ep }
+    ensures range { result < 1024 }
+    ensures act { act < 64 }
+    ensures ep { ep < 16 }
+{
+    16 * act.number() as usize + ep.number() as usize
+}
+
+// The parent has one more child.
+fn add_child(nodes: &mut Vec<Node>, parent: Option<GrantId>)
+    requires { has_room_under nodes.old.items parent ≡ true }
+    ensures items { nodes.new.items ≡ under_parent nodes.old.items parent one_more }
+    ensures len { vec_len nodes.new ≡ vec_len nodes.old }
+    ensures capacity { vec_capacity nodes.new ≡ vec_capacity nodes.old }
+{
+    if let Some(g) = parent {
+        let at = g.number() as usize - 1;
+        if at < nodes.len() {
+            let above = &mut nodes[at];
+            above.children += 1;
+        }
+    }
+}
+
+// The parent has one child less.
+fn drop_child(nodes: &mut Vec<Node>, parent: Option<GrantId>)
+    requires { has_child_under nodes.old.items parent ≡ true }
+    ensures items { nodes.new.items ≡ under_parent nodes.old.items parent one_less }
+    ensures len { vec_len nodes.new ≡ vec_len nodes.old }
+{
+    if let Some(g) = parent {
+        let at = g.number() as usize - 1;
+        if at < nodes.len() {
+            let above = &mut nodes[at];
+            above.children -= 1;
+        }
+    }
+}
+
+// Its Close was sent.
+fn mark_sent(nodes: &mut Vec<Node>, g: GrantId)
+    ensures items { nodes.new.items ≡ with_node nodes.old.items (g - 1) sent_node }
+    ensures len { vec_len nodes.new ≡ vec_len nodes.old }
+{
+    let at = g.number() as usize - 1;
+    if at < nodes.len() {
+        let node = &mut nodes[at];
+        node.close_sent = true;
+    }
+}
+
+// It is done.
+fn mark_done(nodes: &mut Vec<Node>, g: GrantId)
+    ensures items { nodes.new.items ≡ with_node nodes.old.items (g - 1) done_node }
+    ensures len { vec_len nodes.new ≡ vec_len nodes.old }
+{
+    let at = g.number() as usize - 1;
+    if at < nodes.len() {
+        let node = &mut nodes[at];
+        node.stage = Stage::Done;
+    }
+}
+
+// It is the root of a revoke.
+fn mark_root(nodes: &mut Vec<Node>, g: GrantId)
+    ensures items { nodes.new.items ≡ with_node nodes.old.items (g - 1) root_node }
+    ensures len { vec_len nodes.new ≡ vec_len nodes.old }
+{
+    let at = g.number() as usize - 1;
+    if at < nodes.len() {
+        let node = &mut nodes[at];
+        node.is_root = true;
+    }
+}
+
+// Whether the grant above isn't live.
+fn is_under_closing(nodes: &[Node], parent: Option<GrantId>) -> bool
+    ensures { result ≡ is_under_closing nodes.now parent }
+{
+    match parent {
+        Some(p) => {
+            let at = p.number() as usize - 1;
+            at < nodes.len() && !matches!(nodes[at].stage, Stage::Live)
+        }
+        None => false,
+    }
+}
+
+// Whether the grant at this place is the revoked one, or under one that isn't live.
+fn is_reached(nodes: &[Node], g: GrantId, i: usize, parent: Option<GrantId>) -> bool
+    requires { i < length nodes.now }
+    ensures { result ≡ is_reached nodes.now g i parent }
+{
+    i + 1 == g.number() as usize || is_under_closing(nodes, parent)
+}
+
+// Whether the grant at this place is live and reached by the revoke.
+fn closes(nodes: &[Node], g: GrantId, i: usize, node: Node) -> bool
+    requires { i < length nodes.now }
+    ensures { result ≡ (is_reached nodes.now g i (parent_of node.line) && is_live_stage node.stage) }
+{
+    is_reached(nodes, g, i, node.line.parent()) && matches!(node.stage, Stage::Live)
+}
+
+// The grant at this place is closing, where it was live and is reached by the revoke.
+fn close_next(nodes: &mut Vec<Node>, g: GrantId, i: usize)
+    requires { i < vec_len nodes.old }
+    ensures items { nodes.new.items ≡ close_next nodes.old.items g i }
+    ensures len { vec_len nodes.new ≡ vec_len nodes.old }
+{
+    let closes = closes(nodes.as_slice(), g, i, nodes[i]);
+    if closes {
+        let node = &mut nodes[i];
+        node.stage = Stage::Closing;
+    }
+}
+
+// All live grants of g's subtree are closing. A parent stands before its children.
+fn close_under(nodes: &mut Vec<Node>, g: GrantId)
+    requires { AllRightful (grants_of nodes.old.items) }
+    ensures items { nodes.new.items ≡ close_where (marks_under g 1 [] (grants_of nodes.old.items)) nodes.old.items }
+    ensures len { vec_len nodes.new ≡ vec_len nodes.old }
+{
+    for i in 0..nodes.len() {
+        close_next(nodes, g, i);
+    }
+}
+
+// The first grant whose Close is due.
+fn first_due(nodes: &[Node]) -> Option<GrantId>
+    requires { length nodes.now ≤ 4096 }
+    ensures { result ≡ first_due 1 nodes.now }
+{
+    for i in 0..nodes.len() {
+        if nodes[i].is_due() {
+            return Some(GrantId::new(i as u16 + 1));
+        }
+    }
+    None
+}
+
+impl Grants {
+    // Of no grants.
+    fn empty(alloc: Global, memory: u32) -> Result<Grants, AllocError>
+        requires { memory ≤ 1048576 }
+        ensures { IfOk result (λ t. t ≡ record { memory = memory; grants = [] }) }
+    {
+        let mut held = Vec::new(alloc);
+        held.resize(1024, None)?;
+        Ok(Grants {
+            memory,
+            nodes: Vec::new(alloc),
+            held,
+        })
+    }
+
+    /// The grants of a setup, all live, as they stand at opening.
+    pub fn new(alloc: Global, setup: &Setup) -> Result<Grants, AllocError>
+        ensures { IfOk result (λ t. t ≡ record { memory = setup.now.memory; grants = (facts_of setup.now).grants }) }
+    {
+        let lines = setup.lines();
+        let mut grants = Grants::empty(alloc, setup.memory())?;
+        for line in lines {
+            grants.read(line)?;
+        }
+        Ok(grants)
+    }
+
+    // A line of the setup.
+    fn read(&mut self, line: &SetupLine) -> Result<(), AllocError>
+        requires { Allows self.old line.now }
+        ensures { OnOk result (self.new ≡ after_line line.now self.old) }
+    {
+        match line {
+            SetupLine::Grant(line) => {
+                self.add(*line)?;
+                Ok(())
+            }
+            _ => Ok(()),
+        }
+    }
+
+    // The grant of this number.
+    fn get(&self, g: GrantId) -> Option<Node>
+        ensures { Stands self.now.grants g (grant_in self.now.grants g) result }
+    {
+        let at = g.number() as usize - 1;
+        if at < self.nodes.len() {
+            Some(self.nodes[at])
+        } else {
+            None
+        }
+    }
+
+    // The grant of this number, where it isn't done.
+    fn open(&self, g: GrantId) -> Option<Node>
+        ensures { Stands self.now.grants g (undone (grant_in self.now.grants g)) result }
+    {
+        let node = self.get(g)?;
+        match node.stage {
+            Stage::Done => None,
+            _ => Some(node),
+        }
+    }
+
+    // The grant that this one is under, where it isn't done.
+    fn above(&self, parent: Option<GrantId>) -> Option<Node>
+        ensures { StandsAbove self.now.grants parent (undone (parent_in self.now.grants parent)) result }
+    {
+        match parent {
+            Some(g) => self.open(g),
+            None => None,
+        }
+    }
+
+    // Whether 4,096 grants were made, or the receive grant above has 64 children that aren't done.
+    fn is_full(&self, line: &GrantLine, above: &Option<Node>) -> bool
+        ensures { result ≡ (nat_le 4096 (length self.now.grants) || crowds line.now above.now) }
+    {
+        4096 <= self.nodes.len() || form::is_crowded(line, above)
+    }
+
+    // Why a grant of this line can't be made.
+    fn refusal(&self, line: &GrantLine) -> Option<GrantRefusal>
+        ensures { cause_in result ≡ make_refusal self.now.memory self.now.grants line.now }
+    {
+        let above = self.above(line.parent());
+        if form::lacks_parent(line, &above) {
+            return Some(GrantRefusal::NoGrant);
+        }
+        if form::is_above_closing(&above) {
+            return Some(GrantRefusal::Closing);
+        }
+        if self.held(line.act(), line.ep()).is_some() {
+            return Some(GrantRefusal::SlotTaken);
+        }
+        if form::is_outside(self.memory, line, &above) {
+            return Some(GrantRefusal::OutsideParent);
+        }
+        if form::is_more(line, &above) {
+            return Some(GrantRefusal::MorePermission);
+        }
+        if self.is_full(line, &above) {
+            return Some(GrantRefusal::TooMany);
+        }
+        None
+    }
+
+    // Makes a grant that isn't refused. After want of memory nothing has changed.
+    fn add(&mut self, line: GrantLine) -> Result<GrantId, AllocError>
+        requires allowed { make_refusal self.old.memory self.old.grants line ≡ None }
+        ensures id { IfOk result (λ g. g ≡ length self.old.grants + 1) }
+        ensures made { OnOk result (self.new ≡ record self.old { grants = with_made line self.old.grants }) }
+        ensures kept { OnErr result (self.new ≡ self.old) }
+    {
+        let grant = GrantId::new(self.nodes.len() as u16 + 1);
+        let fresh = match form::form(grant, &line, self.above(line.parent())) {
+            Some(fresh) => fresh,
+            None => return Ok(grant),
+        };
+        self.nodes.reserve(1)?;
+        add_child(&mut self.nodes, line.parent());
+        let at = slot(line.act(), line.ep());
+        self.held[at] = Some(grant);
+        self.nodes.push_reserved(Node {
+            line,
+            fresh,
+            stage: Stage::Live,
+            close_sent: false,
+            is_root: false,
+            children: 0,
+        });
+        Ok(grant)
+    }
+
+    /// Makes a live grant of this line. Its number is the next one. The refusals come exactly where they stand, and the
+    /// first of them where there are several: the order of the variants of `GrantRefusal`. `NoMemory` comes only where
+    /// no other does. After a refusal nothing has changed.
+    pub fn make(&mut self, line: GrantLine) -> Result<GrantId, GrantRefusal>
+        ensures id { IfOk result (λ g. g ≡ length self.old.grants + 1) }
+        ensures made { OnOk result (self.new ≡ record self.old { grants = with_made line self.old.grants }) }
+        ensures kept { OnErr result (self.new ≡ self.old) }
+        ensures refused { cause_of result ≡ make_refusal self.old.memory self.old.grants line }
+    {
+        if let Some(refusal) = self.refusal(&line) {
+            return Err(refusal);
+        }
+        match self.add(line) {
+            Ok(grant) => Ok(grant),
+            Err(_) => Err(GrantRefusal::NoMemory),
+        }
+    }
+
+    /// The record that the grant stands for. None exactly where it doesn't exist or is done.
+    pub fn fresh(&self, g: GrantId) -> Option<Fresh>
+        ensures { result ≡ fresh_in (undone (grant_in self.now.grants g)) }
+    {
+        match self.open(g) {
+            Some(node) => Some(node.fresh),
+            None => None,
+        }
+    }
+
+    /// The line that the grant was made by. None exactly where it doesn't exist or is done.
+    pub fn line(&self, g: GrantId) -> Option<GrantLine>
+        ensures { result ≡ line_in (undone (grant_in self.now.grants g)) }
+    {
+        match self.open(g) {
+            Some(node) => Some(node.line),
+            None => None,
+        }
+    }
+
+    /// Who holds the grant, and at which endpoint. None exactly where it doesn't exist or is done.
+    pub fn holder(&self, g: GrantId) -> Option<(ActId, EpId)>
+        ensures { result ≡ holder_in (undone (grant_in self.now.grants g)) }
+    {
+        match self.open(g) {
+            Some(node) => Some((node.line.act(), node.line.ep())),
+            None => None,
+        }
+    }
+
+    /// Whether the grant exists and is live.
+    pub fn live(&self, g: GrantId) -> bool
+        ensures { result ≡ is_live_in (grant_in self.now.grants g) }
+    {
+        match self.get(g) {
+            Some(node) => matches!(node.stage, Stage::Live),
+            None => false,
+        }
+    }
+
+    /// The one grant that is held at this endpoint and isn't done. None exactly where there is none.
+    pub fn held(&self, act: ActId, ep: EpId) -> Option<GrantId>
+        ensures held { IsHeld self.now.grants act ep result }
+        ensures some { is_some result ≡ list_any (holds_at act ep) self.now.grants }
+    {
+        let at = slot(act, ep);
+        self.held[at]
+    }
+
+    /// All live grants under this one, and this one, are closing, and this one is the root of the revoke. `NoGrant`
+    /// exactly where it doesn't exist or is done, `Closing` exactly where it isn't live; then nothing has changed.
+    pub fn revoke(&mut self, g: GrantId) -> Result<(), GrantRefusal>
+        ensures ok { OnOk result (self.new ≡ record self.old { grants = revoked self.old.grants g }) }
+        ensures kept { OnErr result (self.new ≡ self.old) }
+        ensures refused { cause_of result ≡ revoke_refusal (grant_in self.old.grants g) }
+    {
+        match self.open(g) {
+            None => Err(GrantRefusal::NoGrant),
+            Some(node) => {
+                if !matches!(node.stage, Stage::Live) {
+                    return Err(GrantRefusal::Closing);
+                }
+                close_under(&mut self.nodes, g);
+                mark_root(&mut self.nodes, g);
+                Ok(())
+            }
+        }
+    }
+
+    /// The grant whose Close is due next: the least that is closing, has no child that isn't done, and whose Close
+    /// wasn't sent. None exactly where there is none.
+    pub fn next_close(&self) -> Option<GrantId>
+        ensures least { result ≡ least_closing self.now.grants 1 self.now.grants }
+        ensures children_first { IsChildless self.now.grants result }
+    {
+        first_due(self.nodes.as_slice())
+    }
+
+    /// The grant's Close is sent. The condition is that `next_close` gives it.
+    pub fn sent(&mut self, g: GrantId)
+        requires { least_closing self.old.grants 1 self.old.grants ≡ Some g }
+        ensures { self.new ≡ record self.old { grants = with_sent self.old.grants g } }
+    {
+        mark_sent(&mut self.nodes, g);
+    }
+
+    /// The grant is done, and its endpoint has no grant. The condition is that its Close was sent and it isn't done.
+    /// Some of its number exactly where it is the root of a revoke.
+    pub fn closed(&mut self, g: GrantId) -> Option<GrantId>
+        requires sent { is_sent_in (grant_in self.old.grants g) ≡ true }
+        requires undone { is_undone_in (grant_in self.old.grants g) ≡ true }
+        ensures root { result ≡ root_of g (grant_in self.old.grants g) }
+        ensures done { self.new ≡ record self.old { grants = with_done self.old.grants g } }
+    {
+        let node = self.get(g)?;
+        drop_child(&mut self.nodes, node.line.parent());
+        let at = slot(node.line.act(), node.line.ep());
+        self.held[at] = None;
+        mark_done(&mut self.nodes, g);
+        if node.is_root { Some(g) } else { None }
+    }
+}

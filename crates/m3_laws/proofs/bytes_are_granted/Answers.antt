@@ -1,0 +1,5 @@
+use Rattle.m3_laws.proofs.Used.{access_law}
+use Rattle.m3_laws.proofs.bytes_are_granted.Goals as goal
+
+pub returns : goal.returns
+returns c = access_law
