@@ -1,13 +1,13 @@
 -- A command's packet goes where its aim is.
-use Rattle.std.proofs.Common.{◌≡◌, ℕ, Bool, true, false, List, [], ◌∷◌, Option, Some, None, refl, sym, ◌∙◌, subst}
+use Rattle.std.proofs.Common.{◌≡◌, ℕ, Bool, true, false, List, [], ◌∷◌, Option, Some, None, refl}
 use Rattle.std.specs.Prelude.{if◌then◌else◌, ◌==◌, length}
 use Rattle.m3_base.specs.declared.command.Command.{Command}
 use Rattle.m3_base.specs.declared.command.Refusal.{Refusal}
 use Rattle.m3_base.specs.declared.packet.Packet.{Packet}
 use Rattle.m3_base.specs.declared.message.Message.{Message}
-use Rattle.m3_base.specs.Context.{Fetched, SendRecord, ReceiveRecord, MemoryRecord, Endpoint, Free, Sends, Receives, Reaches, Context, endpoint}
+use Rattle.m3_base.specs.Context.{Fetched, ReceiveRecord, Endpoint, Free, Sends, Receives, Reaches, Context, endpoint}
 use Rattle.m3_base.specs.Receive.{fetched_at, unmarked}
-use Rattle.m3_base.specs.Issue.{Issued, first_of, issue, unless, unless_busy, is_busy, gives, send, send_refusal, send_packet, reply, reply_refusal, reply_to, reply_packet, fetch, fetch_from, acknowledge, acknowledge_at, acknowledged, credit_packet, may_read, may_write, access_refusal, read, write}
+use Rattle.m3_base.specs.Issue.{Issued, first_of, issue, unless, unless_busy, is_busy, send, send_refusal, reply, reply_refusal, reply_to, fetch, fetch_from, acknowledge, acknowledge_at, acknowledged, may_read, may_write, access_refusal, read, write}
 use Rattle.m3_base.specs.Places.{target}
 use Rattle.m3_machine.specs.Parts.{Site, tile_of, tile_for}
 use Rattle.m3_machine.specs.Aims.{tile_of_sender, aim_of_send, aim_of_answer, aim_of}

@@ -1,6 +1,5 @@
 -- Any take: whatever stands at the front of the link, at whatever tile.
-use Rattle.std.proofs.Common.{◌≡◌, ℕ, zero, suc, ◌+◌, ◌*◌, ◌<◌, ◌≤◌, Bool, true, false, List, [], ◌∷◌, Some, None, refl, sym, subst, ◌∙◌, ap, arith, Option, ◌⊎◌, inl, inr}
-use Rattle.std.specs.Prelude.{◌==◌}
+use Rattle.std.proofs.Common.{◌≡◌, ℕ, zero, suc, ◌<◌, ◌≤◌, Bool, true, false, List, [], ◌∷◌, Some, None, refl, sym, subst, ◌∙◌, ap, arith, Option}
 use Rattle.std.proofs.lemmas.Bool.Decides.{nat_tests}
 use Rattle.m3_base.specs.declared.packet.Packet.{Packet}
 use Rattle.m3_base.specs.declared.event.Event.{Event}
@@ -11,7 +10,6 @@ use Rattle.m3_machine.specs.Parts.{Site, tile_of, Heard, Parcel, Data, Save, Sav
 use Rattle.m3_machine.specs.Naming.{is_home, has_low_numbers}
 use Rattle.m3_machine.specs.Tile.{act_in}
 use Rattle.m3_machine.specs.Machine.{Machine, tile_at, link_at, mstep}
-use Rattle.m3_machine.specs.At.{current_act}
 use Rattle.m3_machine.specs.Sound.{ParcelOk, Hypotheses, IsSound}
 use Rattle.m3_machine.specs.Refines.{Refined}
 use Rattle.m3_machine.proofs.Emitting.{home_tile}

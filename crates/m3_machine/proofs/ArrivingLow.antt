@@ -1,6 +1,6 @@
 -- What arrives leaves next numbers and next tokens.
-use Rattle.std.proofs.Common.{◌≡◌, ℕ, zero, suc, ◌+◌, ◌<◌, ◌≤◌, Bool, true, false, List, [], ◌∷◌, ◌++◌, length, get_or, set, Option, Some, None, refl, sym, ap, ◌∙◌, subst, arith}
-use Rattle.std.specs.Prelude.{if◌then◌else◌, ◌==◌, not, ◌&&◌}
+use Rattle.std.proofs.Common.{◌≡◌, ℕ, zero, suc, ◌+◌, ◌≤◌, Bool, true, false, List, [], ◌∷◌, get_or, set, Option, Some, None, refl, sym, subst, arith}
+use Rattle.std.specs.Prelude.{if◌then◌else◌, ◌==◌}
 use Rattle.m3_base.specs.declared.command.Refusal.{Refusal}
 use Rattle.m3_base.specs.declared.command.Answer.{Answer}
 use Rattle.m3_base.specs.declared.message.Message.{Message}
@@ -8,7 +8,7 @@ use Rattle.m3_base.specs.declared.packet.Fresh.{Fresh}
 use Rattle.m3_base.specs.declared.packet.Packet.{Packet}
 use Rattle.m3_base.specs.declared.ids.FlightId.{FlightId}
 use Rattle.m3_base.specs.Context.{Kind, Sending, Replying, Reading, Writing, Flying, Endpoint, Free, Sends, Receives, Reaches, Context, endpoint, with_endpoint, opened}
-use Rattle.m3_base.specs.Land.{one_more, sends_by, more_at, credited, with_credit, has_send, land, land_by, land_refusal, joined, taken, has_live, closed_at, flies_at, flying_at, settled, answered, frees}
+use Rattle.m3_base.specs.Land.{sends_by, more_at, credited, with_credit, land_by, land_refusal, joined, taken, has_live, closed_at, flies_at, flying_at, settled, answered, frees}
 use Rattle.m3_base.specs.Arrive.{Arrived, arrive, answer_arrives, close_arrives, freed_context}
 use Rattle.m3_machine.specs.Naming.{next_token_at}
 use Rattle.m3_machine.specs.Low.{HasLow}

@@ -1,5 +1,5 @@
 -- The machine's step at a command, from the tile's.
-use Rattle.std.proofs.Common.{◌≡◌, ℕ, zero, suc, ◌+◌, ◌*◌, ◌<◌, ◌≤◌, Bool, true, false, List, [], ◌∷◌, ◌++◌, length, length-append, map, get_or, set, Option, Some, None, refl, sym, ap, ◌∙◌, subst, arith, ⊎_elim}
+use Rattle.std.proofs.Common.{◌≡◌, ℕ, zero, suc, ◌+◌, ◌<◌, ◌≤◌, Bool, true, false, List, [], ◌∷◌, ◌++◌, length, length-append, map, get_or, set, Option, Some, None, refl, sym, ap, ◌∙◌, subst, arith, ⊎_elim}
 use Rattle.std.specs.Prelude.{if◌then◌else◌, ◌==◌}
 use Rattle.std.proofs.lemmas.List.{get_or-set_same, get_or-set_other, get_or_default, length-set, map-set, map-append}
 use Rattle.std.proofs.lemmas.Bool.{cases_eq}
@@ -10,7 +10,6 @@ use Rattle.m3_base.specs.declared.command.Command.{Command}
 use Rattle.m3_base.specs.declared.packet.Packet.{Packet}
 use Rattle.m3_base.specs.declared.event.Event.{Event}
 use Rattle.m3_base.specs.declared.event.IdleWhy.{IdleWhy}
-use Rattle.m3_base.specs.declared.event.Outcome.{Outcome}
 use Rattle.m3_machine.specs.declared.tile.TileDid.{TileDid}
 use Rattle.m3_machine.specs.Telling.{Does}
 use Rattle.m3_base.specs.Context.{Context}
@@ -18,9 +17,9 @@ use Rattle.m3_base.specs.Issue.{Issued, issue}
 use Rattle.m3_base.specs.Places.{target}
 use Rattle.m3_core.specs.declared.parcel.Emit.{Emit}
 use Rattle.m3_core.specs.declared.parcel.Parcel.{Parcel as CodeParcel}
-use Rattle.m3_machine.specs.Parts.{Site, Parcel, Data, Tile, Deed, is_idle, tile_of, tile_for}
+use Rattle.m3_machine.specs.Parts.{Site, Parcel, Data, Tile, is_idle, tile_of, tile_for}
 use Rattle.m3_machine.specs.Tile.{tile_do, do_at, do_issued, new_out}
-use Rattle.m3_machine.specs.Links.{place, lists_in, list_at, pushed, HasRoom}
+use Rattle.m3_machine.specs.Links.{place, pushed, HasRoom}
 use Rattle.m3_machine.specs.Parcels.{parcel_of, parcels_of, out_of}
 use Rattle.m3_machine.specs.Aims.{aim_of}
 use Rattle.m3_machine.specs.TileView.{aim_at}
@@ -45,7 +44,7 @@ parcels_at (l ∷ ls) (suc k) = parcels_at ls k
 pub parcels_pushed : (links : List (List CodeParcel)) (k : ℕ) (p : CodeParcel) → parcels_of (pushed links k p) ≡ set (parcels_of links) k (get_or (parcels_of links) k [] ++ parcel_of p ∷ [])
 parcels_pushed links k p =
     map-set (map parcel_of) links k (get_or links k [] ++ p ∷ [])
-      ∙ ap (set (parcels_of links) k) (map-append parcel_of (get_or links k []) (p ∷ []) ∙ ap (λ ps. ps ++ parcel_of p ∷ []) (sym (parcels_at links k)))
+    ∙ ap (set (parcels_of links) k) (map-append parcel_of (get_or links k []) (p ∷ []) ∙ ap (λ ps. ps ++ parcel_of p ∷ []) (sym (parcels_at links k)))
 
 pub puts_out : (links new : List (List CodeParcel)) (from : ℕ) (emit : Option Emit) (e : Emit) → emit ≡ Some e → new ≡ pushed links (place from e.to) e.parcel → parcels_of new ≡ out_links from (out_of emit) (parcels_of links)
 puts_out links new from emit e is to =
@@ -119,9 +118,9 @@ pub low_set : (n at : ℕ) (tiles : List Tile) (new : Tile) → AreLow n tiles �
 low_set n at tiles new low l t d within =
     let short : t < length tiles = subst (λ (k : ℕ). t < k) (length-set tiles at new) within in
     ⊎_elim
-      (λ (e : t ≡ at). subst (λ (x : Tile). LowIn (n + 1) x.current) (sym (ap (λ k. get_or (set tiles at new) k d) e ∙ get_or-set_same tiles at new d (subst (λ (k : ℕ). k < length tiles) e short))) l)
-      (λ (ne : t ≡ at → ⊥). subst (λ (x : Tile). LowIn (n + 1) x.current) (sym (get_or-set_other tiles at t new d ne)) (still (get_or tiles t d).current (low t d short)))
-      (cases_eq t at)
+    (λ (e : t ≡ at). subst (λ (x : Tile). LowIn (n + 1) x.current) (sym (ap (λ k. get_or (set tiles at new) k d) e ∙ get_or-set_same tiles at new d (subst (λ (k : ℕ). k < length tiles) e short))) l)
+    (λ (ne : t ≡ at → ⊥). subst (λ (x : Tile). LowIn (n + 1) x.current) (sym (get_or-set_other tiles at t new d ne)) (still (get_or tiles t d).current (low t d short)))
+    (cases_eq t at)
   where
     still : (o : Option Context) → LowIn n o → LowIn (n + 1) o
     still None l = tt
@@ -150,23 +149,23 @@ module _ (h : Site) (m : plain.Machine) (t a : ℕ) (command : Command) (at_home
   part_there : (k : ℕ) → k ≡ t → plain.part_at k m ≡ plain.Is_tile (plain.tile_at t m)
   part_there k e =
       ap (λ j. plain.part_at j m) e
-        ∙ ap (λ b. if b then plain.Is_kernel m.kernel else (if t == 1 then plain.Is_memory m.memory else plain.Is_tile (plain.tile_at t m))) (not_low 0 (omega arith))
-        ∙ ap (λ b. if b then plain.Is_memory m.memory else plain.Is_tile (plain.tile_at t m)) (not_low 1 (omega arith))
+      ∙ ap (λ b. if b then plain.Is_kernel m.kernel else (if t == 1 then plain.Is_memory m.memory else plain.Is_tile (plain.tile_at t m))) (not_low 0 (omega arith))
+      ∙ ap (λ b. if b then plain.Is_memory m.memory else plain.Is_tile (plain.tile_at t m)) (not_low 1 (omega arith))
 
   pub do_step : plain.mstep h m (Event.Do a command) None ≡ plain.done_by t m (Some (plain.of_tile (tile_do h (plain.tile_at t m) a command)))
   do_step =
       ap (λ k. plain.done_by k m (plain.part_step h (plain.part_at k m) (Event.Do a command) None None)) at_home
-        ∙ ap (λ x. plain.done_by t m (plain.part_step h x (Event.Do a command) None None)) (part_there t refl)
+      ∙ ap (λ x. plain.done_by t m (plain.part_step h x (Event.Do a command) None None)) (part_there t refl)
 
   pub does_step : (tiles : List Tile) (part : Tile) (emit : Option Emit) (d : TileDid) (links : List (List Parcel)) → Does d part (tile_do h (plain.tile_at t m) a command) → emit ≡ d.emit → tiles ≡ set m.tiles t part → links ≡ out_links t (out_of emit) m.links
-    → plain.mstep h m (Event.Do a command) None ≡ Some (record { outcome = d.outcome; machine = record m { tiles = tiles; links = links } })
+      → plain.mstep h m (Event.Do a command) None ≡ Some (record { outcome = d.outcome; machine = record m { tiles = tiles; links = links } })
   does_step tiles part emit d links does sent is out =
       do_step
-        ∙ ap Some (λ i. record {
-          outcome = sym does.outcome i;
-          machine = (pushed_links (plain.with_part t (plain.Is_tile (tile_do h (plain.tile_at t m) a command).part) m) t (tile_do h (plain.tile_at t m) a command).out
+      ∙ ap Some (λ i. record {
+        outcome = sym does.outcome i;
+        machine = (pushed_links (plain.with_part t (plain.Is_tile (tile_do h (plain.tile_at t m) a command).part) m) t (tile_do h (plain.tile_at t m) a command).out
             ∙ (λ j. record m { tiles = (sym (is ∙ ap (set m.tiles t) does.part)) j; links = (ap (λ o. out_links t o m.links) (sym does.out ∙ ap out_of (sym sent)) ∙ sym out) j })) i;
-        })
+      })
 
 -- ---- a whole machine
 
@@ -179,7 +178,7 @@ home_of_tile (Some y) t e = some_number y.tile t e
 
 -- the tile of the activity makes a command
 module _ (s : SetupValue) (h : Site) (tiles : List Tile) (links : List (List CodeParcel)) (entries : List Entry) (t at a : ℕ) (command : Command) (part new : Tile)
-  (is_site : h ≡ site s) (valid : IsValid s) (home : home_tile (home_of a h) ≡ Some t) (index : at ≡ t) (count : length tiles ≡ 16) (read : part ≡ get_or tiles at part) where
+    (is_site : h ≡ site s) (valid : IsValid s) (home : home_tile (home_of a h) ≡ Some t) (index : at ≡ t) (count : length tiles ≡ 16) (read : part ≡ get_or tiles at part) where
   there : (tile_of (site s) a ≡ t) × (2 ≤ t) × (t < 16)
   there = home_high s valid a t (subst (λ (x : Site). home_tile (home_of a x) ≡ Some t) is_site home)
 
@@ -187,22 +186,22 @@ module _ (s : SetupValue) (h : Site) (tiles : List Tile) (links : List (List Cod
   part_is = read ∙ get_or_default tiles at part (plain.empty_tile t) (omega (arith, count, index, there.2)) ∙ ap (λ k. get_or tiles k (plain.empty_tile t)) index
 
   pub made : (emit : Option Emit) (d : TileDid) (links' : List (List CodeParcel)) → Does d new (tile_do h part a command) → emit ≡ d.emit
-    → parcels_of links' ≡ out_links t (out_of emit) (parcels_of links)
-    → Steps (record { setup = s; machine = machine_of s tiles links; entries = entries }) (Event.Do a command) (record { setup = s; machine = machine_of s (set tiles at new) links'; entries = entries ++ entry (Event.Do a command) d.outcome ∷ [] })
+      → parcels_of links' ≡ out_links t (out_of emit) (parcels_of links)
+      → Steps (record { setup = s; machine = machine_of s tiles links; entries = entries }) (Event.Do a command) (record { setup = s; machine = machine_of s (set tiles at new) links'; entries = entries ++ entry (Event.Do a command) d.outcome ∷ [] })
   made emit d links' does sent out = record {
     outcome = d.outcome;
     added = refl;
     moved =
         does_step (site s) (machine_of s tiles links) t a command there.0 there.1 (omega (arith, count, there.2)) (set tiles at new) new emit d (parcels_of links')
-          (subst (λ (x : Tile). Does d new (tile_do (site s) x a command)) part_is (subst (λ (x : Site). Does d new (tile_do x part a command)) is_site does)) sent
-          (ap (λ k. set tiles k new) index) out;
+        (subst (λ (x : Tile). Does d new (tile_do (site s) x a command)) part_is (subst (λ (x : Site). Does d new (tile_do x part a command)) is_site does)) sent
+        (ap (λ k. set tiles k new) index) out;
     setup = refl;
   }
 
   pub made_on : (old : Whole) (es : List Entry) (emit : Option Emit) (d : TileDid) (links' : List (List CodeParcel)) → record { setup = s; machine = machine_of s tiles links; entries = entries } ≡ old
-    → es ≡ entries ++ entry (Event.Do a command) d.outcome ∷ [] → Does d new (tile_do h part a command) → emit ≡ d.emit
-    → parcels_of links' ≡ out_links t (out_of emit) (parcels_of links)
-    → Steps old (Event.Do a command) (record { setup = s; machine = machine_of s (set tiles at new) links'; entries = es })
+      → es ≡ entries ++ entry (Event.Do a command) d.outcome ∷ [] → Does d new (tile_do h part a command) → emit ≡ d.emit
+      → parcels_of links' ≡ out_links t (out_of emit) (parcels_of links)
+      → Steps old (Event.Do a command) (record { setup = s; machine = machine_of s (set tiles at new) links'; entries = es })
   made_on old es emit d links' is added does sent out =
       subst (λ (w : Whole). Steps w (Event.Do a command) (record { setup = s; machine = machine_of s (set tiles at new) links'; entries = es })) is (
       subst (λ (xs : List Entry). Steps (record { setup = s; machine = machine_of s tiles links; entries = entries }) (Event.Do a command) (record { setup = s; machine = machine_of s (set tiles at new) links'; entries = xs })) (sym added) (

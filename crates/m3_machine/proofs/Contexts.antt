@@ -1,22 +1,22 @@
 -- Each line of a setup takes the table of contexts one step on.
-use Rattle.std.proofs.Common.{◌≡◌, ◌≢◌, ℕ, ◌+◌, ◌-◌, ◌<◌, ◌≤◌, Bool, true, false, List, [], ◌∷◌, ◌++◌, length, length-append, get_or, set, Option, Some, None, refl, sym, ◌∙◌, ap, subst, arith, replicate, inl, inr, ⊎_elim}
-use Rattle.std.specs.Prelude.{zero, suc, if◌then◌else◌, ◌==◌, is_some, is_none, not, ◌||◌, ◌&&◌, nat_le, nat_lt, slice_get, IsTrue, ◌⊎◌}
+use Rattle.std.proofs.Common.{◌≡◌, ◌≢◌, ℕ, ◌+◌, ◌<◌, ◌≤◌, Bool, true, false, List, [], ◌∷◌, ◌++◌, length, length-append, get_or, set, Option, Some, None, refl, sym, ◌∙◌, ap, subst, arith, replicate, inl, inr, ⊎_elim}
+use Rattle.std.specs.Prelude.{zero, suc, if◌then◌else◌, is_none, not, ◌||◌, nat_lt, slice_get, ◌⊎◌}
 use Rattle.std.specs.List.{list_any}
 use Rattle.std.proofs.lemmas.Bool.Decides.{nat_tests}
 use Rattle.std.proofs.lemmas.Bool.{cases_eq, cases_lt}
-use Rattle.std.proofs.lemmas.List.{get_or-replicate, get_or_past, length-replicate, get_or-set_same, get_or-set_other}
+use Rattle.std.proofs.lemmas.List.{get_or-replicate, get_or_past, length-replicate, get_or-set_other}
 use Rattle.m3_base.specs.Obeys.{Declared, Obeys}
 use Rattle.m3_base.specs.declared.order.GrantLine.{GrantLine}
 use Rattle.m3_base.specs.declared.packet.Perm.{Perm}
 use Rattle.m3_base.specs.declared.packet.Fresh.{Fresh}
 use Rattle.m3_base.specs.declared.setup_line.SetupLine.{SetupLine}
 use Rattle.m3_base.specs.Context.{Endpoint, Free, Context, new_context, endpoint, opened, with_endpoint}
-use Rattle.m3_base.specs.Fits.{is_between, is_form}
+use Rattle.m3_base.specs.Fits.{is_form}
 use Rattle.m3_base.specs.Limits.{is_within, is_in_limits}
 use Rattle.m3_base.specs.State.{State, Grant, context_of, put_context, new_context_in, holder, holder_ep, parent_of, parent_in, undone, is_done, grant_in}
 use Rattle.m3_base.specs.Grants.{form, send_form, part_form, new_grant, holds_at, make_refusal, is_outside, fresh_of}
-use Rattle.m3_base.specs.Opening.{with_line, with_lines, granted, installed, opening}
-use Rattle.m3_base.specs.Setup.{Facts, SetupValue, IsValid, AllKept, InRange, no_lines, noted, all_noted, facts_of, refuses, home_in, with_grant, grant_added, is_machine, fresh_in}
+use Rattle.m3_base.specs.Opening.{with_line, granted, installed, opening}
+use Rattle.m3_base.specs.Setup.{Facts, SetupValue, IsValid, no_lines, noted, all_noted, facts_of, with_grant, is_machine, fresh_in}
 use Rattle.m3_base.proofs.SetupRules.{grant_allowed}
 use Rattle.m3_base.proofs.Obeying.{Ties, obeys, ties, tied_at_first}
 use Rattle.m3_machine.specs.Table.{HasContexts}
@@ -198,11 +198,11 @@ module _ (setup : SetupValue) (table : List (Option Context)) (n : ℕ) where
     act_low : (b : ℕ) (c : Context) → context_of b (with_line p.state (SetupLine.Act a t)).contexts ≡ Some c → HasLow 0 c
     act_low b c there =
         ⊎_elim
-          (λ (e : b ≡ a).
-            let is : new_context a ≡ c = some_is (new_context a) c (sym (found_new a (new_context a) p.state.contexts is_new.0 refl) ∙ ap (λ x. context_of x (new_context_in (new_context a) p.state.contexts)) (sym e) ∙ there) in
-            subst (λ (x : Context). HasLow 0 x) is (new_low a))
-          (λ (ne : b ≡ a → ⊥). p.low b c (sym (found_beside b (new_context a) p.state.contexts ne) ∙ there))
-          (cases_eq b a)
+        (λ (e : b ≡ a).
+        let is : new_context a ≡ c = some_is (new_context a) c (sym (found_new a (new_context a) p.state.contexts is_new.0 refl) ∙ ap (λ x. context_of x (new_context_in (new_context a) p.state.contexts)) (sym e) ∙ there) in
+        subst (λ (x : Context). HasLow 0 x) is (new_low a))
+        (λ (ne : b ≡ a → ⊥). p.low b c (sym (found_beside b (new_context a) p.state.contexts ne) ∙ there))
+        (cases_eq b a)
 
     pub act_step : Progress setup (set table a (Some (new_context a))) n left
     act_step = record {
@@ -350,11 +350,11 @@ module _ (setup : SetupValue) (table : List (Option Context)) (n : ℕ) where
     still_low b c there =
         let cs : context_of b (put_context after p.state.contexts) ≡ Some c = sym (ap (λ o. context_of b (installed (holder_ep line) fresh p.state.contexts o)) here.1) ∙ there in
         ⊎_elim
-          (λ (e : b ≡ after.act).
-            let is : after ≡ c = some_is after c (sym (found_put after.act after before p.state.contexts (ap (λ k. context_of k p.state.contexts) act ∙ here.1) refl) ∙ ap (λ k. context_of k (put_context after p.state.contexts)) (sym e) ∙ cs) in
-            subst (λ (x : Context). HasLow 0 x) is after_low)
-          (λ (ne : b ≡ after.act → ⊥). p.low b c (sym (found_kept b after p.state.contexts ne) ∙ cs))
-          (cases_eq b after.act)
+        (λ (e : b ≡ after.act).
+        let is : after ≡ c = some_is after c (sym (found_put after.act after before p.state.contexts (ap (λ k. context_of k p.state.contexts) act ∙ here.1) refl) ∙ ap (λ k. context_of k (put_context after p.state.contexts)) (sym e) ∙ cs) in
+        subst (λ (x : Context). HasLow 0 x) is after_low)
+        (λ (ne : b ≡ after.act → ⊥). p.low b c (sym (found_kept b after p.state.contexts ne) ∙ cs))
+        (cases_eq b after.act)
 
     -- there is a number left
     pub few : n + 1 ≤ 4096

@@ -1,6 +1,6 @@
 -- The activities that a setup declares are those of its site.
-use Rattle.std.proofs.Common.{◌≡◌, ℕ, Bool, true, false, List, [], ◌∷◌, Option, Some, None, refl, sym, ap, ◌∙◌, subst, replicate}
-use Rattle.std.specs.Prelude.{is_some, is_none, not, ◌||◌, ◌&&◌, nat_le, nat_lt}
+use Rattle.std.proofs.Common.{◌≡◌, ℕ, true, false, List, [], ◌∷◌, Option, Some, None, refl, subst, replicate}
+use Rattle.std.specs.Prelude.{is_some, is_none}
 use Rattle.m3_base.specs.declared.setup_line.SetupLine.{SetupLine}
 use Rattle.m3_base.specs.Setup.{Facts, SetupValue, IsValid, AllKept, no_lines, noted, all_noted, facts_of, home_in}
 use Rattle.m3_machine.specs.Parts.{Home, Site, home_of}

@@ -1,22 +1,19 @@
 -- The invariant of the ideal state gives what the machine's steps need of it.
-use Rattle.std.proofs.Common.{◌≡◌, ℕ, zero, suc, ◌+◌, ◌*◌, ◌<◌, ◌≤◌, Bool, true, false, List, [], ◌∷◌, length, get_or, Some, None, refl, sym, subst, ◌∙◌, ap, arith, Option, ◌⊎◌, inl, inr}
-use Rattle.std.specs.Prelude.{◌==◌}
-use Rattle.std.proofs.lemmas.Bool.Decides.{nat_tests}
+use Rattle.std.proofs.Common.{◌≡◌, ℕ, zero, suc, ◌+◌, ◌*◌, ◌<◌, Bool, true, false, List, [], ◌∷◌, length, get_or, Some, refl, sym, subst, ◌∙◌, ap, arith, ◌⊎◌, inl, inr}
 use Rattle.m3_base.specs.declared.ids.FlightId.{FlightId}
 use Rattle.m3_base.specs.declared.packet.Packet.{Packet}
 use Rattle.m3_base.specs.Flight.{flight, name_of}
-use Rattle.m3_base.specs.Context.{Context, endpoint}
-use Rattle.m3_base.specs.Land.{grant_of}
-use Rattle.m3_base.specs.State.{Standing, Live, Closing, Closed, Done, Grant, context_of}
+use Rattle.m3_base.specs.Context.{Context}
+use Rattle.m3_base.specs.State.{Standing, Live, Closing, Closed, Done, Grant}
 use Rattle.m3_base.specs.Fits.{fits}
 use Rattle.m3_base.specs.Places.{target}
 use Rattle.m3_laws.specs.Laws as laws
 use Rattle.m3_laws.specs.Held as laws_held
 use Rattle.m3_laws.specs.Invariant.{Invariant}
-use Rattle.m3_laws.specs.Quiet.{IsData, Quiet}
+use Rattle.m3_laws.specs.Quiet.{Quiet}
 use Rattle.m3_laws.proofs.Fitting.{InstallLanded, fits_at, held_there, close_held, closing_was_sent, close_was_sent, read_inside, write_inside, next_free, kernel_free}
 use Rattle.m3_machine.specs.Parts.{Site, Parcel, Data, Seat, Away, Tile, Is_resting, Is_coming}
-use Rattle.m3_machine.specs.Kernel.{seat_of, kernel_id}
+use Rattle.m3_machine.specs.Kernel.{seat_of}
 use Rattle.m3_machine.specs.Naming.{is_named_context}
 use Rattle.m3_machine.specs.Machine.{Machine, empty_tile, tile_at, link_at}
 use Rattle.m3_machine.specs.At.{at}

@@ -1,14 +1,14 @@
 -- Next numbers and next tokens rise by one at most.
-use Rattle.std.proofs.Common.{◌≡◌, ◌≢◌, ℕ, ◌+◌, ◌<◌, ◌≤◌, Bool, true, false, List, [], ◌∷◌, ◌++◌, length, get_or, set, Option, Some, None, refl, sym, ap, ◌∙◌, subst, arith, ⊎_elim}
+use Rattle.std.proofs.Common.{◌≡◌, ℕ, ◌+◌, ◌<◌, ◌≤◌, Bool, true, false, List, [], ◌∷◌, length, get_or, set, Option, Some, None, refl, sym, subst, arith, ⊎_elim}
 use Rattle.std.specs.Prelude.{if◌then◌else◌, ◌==◌}
 use Rattle.std.proofs.lemmas.List.{get_or-set_same, get_or-set_other, set_past}
 use Rattle.std.proofs.lemmas.Bool.{cases_eq, cases_lt}
 use Rattle.m3_base.specs.declared.command.Command.{Command}
 use Rattle.m3_base.specs.declared.command.Refusal.{Refusal}
 use Rattle.m3_base.specs.declared.message.Message.{Message}
-use Rattle.m3_base.specs.Context.{Kind, Sending, Replying, Reading, Writing, SendRecord, ReceiveRecord, MemoryRecord, Fetched, Endpoint, Free, Sends, Receives, Reaches, Context, endpoint, with_endpoint}
+use Rattle.m3_base.specs.Context.{ReceiveRecord, Endpoint, Free, Sends, Receives, Reaches, Context, endpoint}
 use Rattle.m3_base.specs.Receive.{with_fetched, fetched_at, unmarked, freed, marking}
-use Rattle.m3_base.specs.Issue.{Issued, first_of, issue, unless, unless_busy, is_busy, launched, less_one, send, send_refusal, reply, reply_refusal, reply_to, fetch, fetch_from, acknowledge, acknowledge_at, acknowledged, may_read, may_write, access_refusal, read, write}
+use Rattle.m3_base.specs.Issue.{Issued, first_of, issue, unless, unless_busy, is_busy, less_one, send, send_refusal, reply, reply_refusal, reply_to, fetch, fetch_from, acknowledge, acknowledge_at, acknowledged, may_read, may_write, access_refusal, read, write}
 use Rattle.m3_machine.specs.Naming.{next_token_at}
 use Rattle.m3_machine.specs.Low.{HasLow}
 
@@ -22,9 +22,9 @@ token_set n ep k es e low token = ⊎_elim (λ (same : k ≡ ep). subst (λ (j :
     here : next_token_at (get_or (set es ep e) ep Free) ≤ n
     here =
         ⊎_elim
-          (λ (within : ep < length es). subst (λ (x : Endpoint). next_token_at x ≤ n) (sym (get_or-set_same es ep e Free within)) token)
-          (λ (past : length es ≤ ep). subst (λ (xs : List Endpoint). next_token_at (get_or xs ep Free) ≤ n) (sym (set_past es ep e past)) (low ep))
-          (cases_lt ep (length es))
+        (λ (within : ep < length es). subst (λ (x : Endpoint). next_token_at x ≤ n) (sym (get_or-set_same es ep e Free within)) token)
+        (λ (past : length es ≤ ep). subst (λ (xs : List Endpoint). next_token_at (get_or xs ep Free) ≤ n) (sym (set_past es ep e past)) (low ep))
+        (cases_lt ep (length es))
 
     other : (k ≡ ep → ⊥) → next_token_at (get_or (set es ep e) k Free) ≤ n
     other ne = subst (λ (x : Endpoint). next_token_at x ≤ n) (sym (get_or-set_other es ep k e Free ne)) (low k)

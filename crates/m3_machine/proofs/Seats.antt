@@ -1,12 +1,12 @@
 -- Tiles and a table of contexts that keep next numbers and next tokens low.
-use Rattle.std.proofs.Common.{◌≡◌, ℕ, ◌+◌, ◌<◌, ◌≤◌, List, [], ◌∷◌, ◌++◌, length, get_or, set, Option, Some, None, refl, sym, ap, ◌∙◌, subst, inl, inr, ⊎_elim, length-append, arith}
+use Rattle.std.proofs.Common.{◌≡◌, ℕ, ◌+◌, ◌<◌, List, [], ◌∷◌, ◌++◌, length, get_or, set, Option, Some, None, sym, ap, ◌∙◌, subst, ⊎_elim, length-append, arith}
 use Rattle.std.proofs.lemmas.Bool.{cases_eq}
 use Rattle.std.proofs.lemmas.List.{get_or_append_left, get_or-set_same, get_or-set_other, length-set}
 use Rattle.std.proofs.Math.Seq.{get_or-append_seam}
 use Rattle.m3_base.specs.Context.{Context}
 use Rattle.m3_machine.specs.Parts.{Tile}
 use Rattle.m3_machine.specs.Low.{HasLow, LowIn, AreLow}
-use Rattle.m3_machine.specs.TileView.{first_of, seated_with}
+use Rattle.m3_machine.specs.TileView.{first_of}
 
 -- each context of a table is low
 abbrev pub AllLow : ℕ → List (Option Context) → Type 0

@@ -1,5 +1,5 @@
 -- A tile without programs takes data as its local step says.
-use Rattle.std.proofs.Common.{◌≡◌, ℕ, Bool, true, false, List, [], ◌∷◌, ◌++◌, map, Option, Some, None, refl, sym, ap, ◌∙◌, subst, arith}
+use Rattle.std.proofs.Common.{◌≡◌, ℕ, Bool, true, false, List, [], ◌∷◌, map, Option, Some, None, refl, sym, ap, ◌∙◌, subst, arith}
 use Rattle.std.specs.Prelude.{if◌then◌else◌, ◌==◌}
 use Rattle.std.proofs.lemmas.Bool.Decides.{nat_tests}
 use Rattle.m3_base.specs.declared.packet.Packet.{Packet}
@@ -11,8 +11,8 @@ use Rattle.m3_base.specs.Context.{Context}
 use Rattle.m3_base.specs.Arrive.{Arrived}
 use Rattle.m3_base.specs.Places.{target, is_here}
 use Rattle.m3_machine.specs.declared.tile.TileDid.{TileDid}
-use Rattle.m3_machine.specs.Parts.{Site, Heard, Seen, First, Stay, Tile, Deed, Data, says, heard_of}
-use Rattle.m3_machine.specs.Tile.{stay_act, stay_of, with_stay, with_current, hears, hears_all, hearing, heard_by, act_in, take_arrived, arrive_named, take_here, take_data}
+use Rattle.m3_machine.specs.Parts.{Site, Heard, First, Stay, Tile, Deed, Data, says, heard_of}
+use Rattle.m3_machine.specs.Tile.{stay_act, stay_of, with_stay, hears_all, hearing, heard_by, act_in, take_arrived, arrive_named, take_here, take_data}
 use Rattle.m3_machine.specs.Machine.{new_stay}
 use Rattle.m3_machine.specs.Telling.{Lands, Does}
 
@@ -76,7 +76,7 @@ takes_there h t acts c new p d here lands =
     }
 
 pub takes_data : (h : Site) (old : Tile) (t : ℕ) (acts : List ℕ) (o : Option Context) (c new : Context) (p : Packet) (d : TileDid)
-  → old ≡ tile_with t acts o → o ≡ Some c → is_here (target p) (act_in old.current) ≡ true → Lands h d c new (arrive_named h c p) → Does d (tile_with t acts (Some new)) (take_data h old p)
+    → old ≡ tile_with t acts o → o ≡ Some c → is_here (target p) (act_in old.current) ≡ true → Lands h d c new (arrive_named h c p) → Does d (tile_with t acts (Some new)) (take_data h old p)
 takes_data h old t acts o c new p d is some here lands =
     let whole : old ≡ tile_with t acts (Some c) = is ∙ ap (tile_with t acts) some in
     subst (λ (x : Tile). Does d (tile_with t acts (Some new)) (take_data h x p)) (sym whole) (

@@ -1,7 +1,7 @@
 -- The machine's step at a take of data, from the tile's.
-use Rattle.std.proofs.Common.{◌≡◌, ℕ, zero, suc, ◌+◌, ◌*◌, ◌<◌, ◌≤◌, Bool, true, false, List, [], ◌∷◌, ◌++◌, length, map, drop, get_or, set, Option, Some, None, refl, sym, ap, ◌∙◌, subst, arith, ⊎_elim, inl, inr}
+use Rattle.std.proofs.Common.{◌≡◌, ℕ, ◌+◌, ◌<◌, ◌≤◌, Bool, true, false, List, [], ◌∷◌, ◌++◌, length, map, drop, get_or, set, Option, Some, None, refl, sym, ap, ◌∙◌, subst, arith, ⊎_elim, inl, inr}
 use Rattle.std.specs.Prelude.{if◌then◌else◌, ◌==◌, ◌⊎◌}
-use Rattle.std.proofs.lemmas.List.{get_or_default, map-set, set-get_or}
+use Rattle.std.proofs.lemmas.List.{get_or_default, map-set}
 use Rattle.std.proofs.lemmas.Bool.Decides.{nat_tests}
 use Rattle.std.specs.declared.collections.VecDeque.{VecDeque}
 use Rattle.std.specs.declared.alloc.Global.{Global}
@@ -11,25 +11,24 @@ use Rattle.m3_base.specs.declared.packet.Packet.{Packet}
 use Rattle.m3_base.specs.declared.message.Message.{Message}
 use Rattle.m3_base.specs.declared.event.Event.{Event}
 use Rattle.m3_base.specs.declared.event.Entry.{Entry}
-use Rattle.m3_base.specs.declared.event.IdleWhy.{IdleWhy}
 use Rattle.m3_base.specs.declared.event.Said.{Said}
 use Rattle.m3_base.specs.declared.ids.FlightId.{FlightId}
 use Rattle.m3_base.specs.Flight.{name_of}
 use Rattle.m3_base.specs.Context.{Context, Flying, endpoint, with_endpoint}
-use Rattle.m3_base.specs.Land.{land, land_by, land_refusal, landed_answer, message_id, has_live, closed_at, flies_at, flying_at, frees, answered}
+use Rattle.m3_base.specs.Land.{land_by, land_refusal, message_id, has_live, closed_at, flies_at, flying_at, frees, answered}
 use Rattle.m3_base.specs.Arrive.{Arrived, arrive, answer_arrives, close_arrives}
-use Rattle.m3_base.specs.Fits.{fits, arrive_fit}
+use Rattle.m3_base.specs.Fits.{fits}
 use Rattle.m3_base.specs.Places.{target, is_here}
-use Rattle.m3_base.specs.Setup.{SetupValue, IsValid}
+use Rattle.m3_base.specs.Setup.{SetupValue}
 use Rattle.m3_core.specs.declared.parcel.Emit.{Emit}
 use Rattle.m3_core.specs.declared.parcel.Parcel.{Parcel as CodeParcel}
 use Rattle.m3_machine.specs.declared.tile.TileDid.{TileDid}
-use Rattle.m3_machine.specs.Parts.{Site, Heard, Stay, heard_of, Parcel, Data, Save, Saved, Restore, Yield, Closed, Tile, Deed, dropped, says, tile_of, tile_for, data_out, closed_out, answer_tile}
+use Rattle.m3_machine.specs.Parts.{Site, Heard, Stay, heard_of, Parcel, Data, Closed, Tile, says, tile_of, data_out, closed_out, answer_tile}
 use Rattle.m3_machine.specs.Naming.{is_named}
-use Rattle.m3_machine.specs.Tile.{with_current, stay_of, heard_by, tile_take, take_data, take_here, take_arrived, arrive_named, act_in}
-use Rattle.m3_machine.specs.Links.{place, lists_in, list_at, popped, first, HasRoom}
+use Rattle.m3_machine.specs.Tile.{with_current, stay_of, heard_by, take_data, take_here, take_arrived, arrive_named, act_in}
+use Rattle.m3_machine.specs.Links.{place, list_at, popped, first, HasRoom}
 use Rattle.m3_machine.specs.Parcels.{parcel_of, parcels_of, out_of}
-use Rattle.m3_machine.specs.Telling.{Does, plain}
+use Rattle.m3_machine.specs.Telling.{Does}
 use Rattle.m3_machine.specs.Low.{HasLow, LowIn, AreLow}
 use Rattle.m3_machine.specs.Whole.{Whole, site, machine_of, entry, out_links, HasRoomFor, IsNamedAt, HasFront, Steps}
 use Rattle.m3_machine.specs.Machine as machine
@@ -106,9 +105,9 @@ pub data_room : (h : Site) (t : Tile) (p : Packet) (links : List (VecDeque CodeP
 data_room h t p links from back None id named at is room kernel = tt
 data_room h t p links from back (Some e) id named at is room kernel =
     ⊎_elim
-      (λ (to : e.to ≡ tile_of h (name_of p).issuer). subst (λ (k : ℕ). HasRoom links (place from k)) (at ∙ ap (λ n. tile_of h n.issuer) (sym named) ∙ sym to) room)
-      (λ (to : e.to ≡ 0). subst (λ (k : ℕ). HasRoom links (place from k)) (sym to) kernel)
-      (data_back h t p e is)
+    (λ (to : e.to ≡ tile_of h (name_of p).issuer). subst (λ (k : ℕ). HasRoom links (place from k)) (at ∙ ap (λ n. tile_of h n.issuer) (sym named) ∙ sym to) room)
+    (λ (to : e.to ≡ 0). subst (λ (k : ℕ). HasRoom links (place from k)) (sym to) kernel)
+    (data_back h t p e is)
 
 -- ---- numbers
 
@@ -170,7 +169,7 @@ parcels_popped : (links : List (List CodeParcel)) (k : ℕ) → parcels_of (popp
 parcels_popped links k = map-set (map parcel_of) links k (drop 1 (get_or links k []))
 
 module _ (s : SetupValue) (h : Site) (tiles : List Tile) (links : List (List CodeParcel)) (entries : List Entry) (to from at : ℕ) (p : Packet) (part new : Tile)
-  (is_site : h ≡ site s) (index : at ≡ to) (high : 2 ≤ to) (low : to < 16) (count : length tiles ≡ 16) (read : part ≡ get_or tiles at part) (front : first (list_at links (place from to)) ≡ Some (CodeParcel.Data p)) where
+    (is_site : h ≡ site s) (index : at ≡ to) (high : 2 ≤ to) (low : to < 16) (count : length tiles ≡ 16) (read : part ≡ get_or tiles at part) (front : first (list_at links (place from to)) ≡ Some (CodeParcel.Data p)) where
   at_front : machine.link_at from to (machine_of s tiles links) ≡ Data p ∷ map parcel_of (drop 1 (get_or links (place from to) []))
   at_front = parcels_at links (place from to) ∙ ap (map parcel_of) (first_is (get_or links (place from to) []) (CodeParcel.Data p) front)
 
@@ -188,14 +187,14 @@ module _ (s : SetupValue) (h : Site) (tiles : List Tile) (links : List (List Cod
       ≡ machine.done_by to (machine.with_link from to (map parcel_of (drop 1 (get_or links (place from to) []))) (machine_of s tiles links)) (Some (machine.of_tile (take_data (site s) part p)))
   tile_step =
       ap (λ l. machine.done_by to (machine.with_link from to (machine.rest l) (machine_of s tiles links)) (machine.part_step (site s) (machine.part_at to (machine_of s tiles links)) (Event.Take to from) None (machine.front l))) at_front
-        ∙ ap (λ b. machine.done_by to (machine.with_link from to (map parcel_of (drop 1 (get_or links (place from to) []))) (machine_of s tiles links)) (machine.part_step (site s) (if b then machine.Is_kernel (machine_of s tiles links).kernel else (if to == 1 then machine.Is_memory (machine_of s tiles links).memory else machine.Is_tile (machine.tile_at to (machine_of s tiles links)))) (Event.Take to from) None (Some (Data p)))) (not_small 0 (omega arith))
-        ∙ ap (λ b. machine.done_by to (machine.with_link from to (map parcel_of (drop 1 (get_or links (place from to) []))) (machine_of s tiles links)) (machine.part_step (site s) (if b then machine.Is_memory (machine_of s tiles links).memory else machine.Is_tile (machine.tile_at to (machine_of s tiles links))) (Event.Take to from) None (Some (Data p)))) (not_small 1 (omega arith))
-        ∙ ap (λ x. machine.done_by to (machine.with_link from to (map parcel_of (drop 1 (get_or links (place from to) []))) (machine_of s tiles links)) (Some (machine.of_tile (take_data (site s) x p)))) (sym part_is)
+      ∙ ap (λ b. machine.done_by to (machine.with_link from to (map parcel_of (drop 1 (get_or links (place from to) []))) (machine_of s tiles links)) (machine.part_step (site s) (if b then machine.Is_kernel (machine_of s tiles links).kernel else (if to == 1 then machine.Is_memory (machine_of s tiles links).memory else machine.Is_tile (machine.tile_at to (machine_of s tiles links)))) (Event.Take to from) None (Some (Data p)))) (not_small 0 (omega arith))
+      ∙ ap (λ b. machine.done_by to (machine.with_link from to (map parcel_of (drop 1 (get_or links (place from to) []))) (machine_of s tiles links)) (machine.part_step (site s) (if b then machine.Is_memory (machine_of s tiles links).memory else machine.Is_tile (machine.tile_at to (machine_of s tiles links))) (Event.Take to from) None (Some (Data p)))) (not_small 1 (omega arith))
+      ∙ ap (λ x. machine.done_by to (machine.with_link from to (map parcel_of (drop 1 (get_or links (place from to) []))) (machine_of s tiles links)) (Some (machine.of_tile (take_data (site s) x p)))) (sym part_is)
 
   pub took_on : (old : Whole) (es : List Entry) (emit : Option Emit) (d : TileDid) (links' : List (List CodeParcel)) → record { setup = s; machine = machine_of s tiles links; entries = entries } ≡ old
-    → es ≡ entries ++ entry (Event.Take to from) d.outcome ∷ [] → Does d new (take_data h part p) → emit ≡ d.emit
-    → parcels_of links' ≡ out_links to (out_of emit) (parcels_of (popped links (place from to)))
-    → Steps old (Event.Take to from) (record { setup = s; machine = machine_of s (set tiles at new) links'; entries = es })
+      → es ≡ entries ++ entry (Event.Take to from) d.outcome ∷ [] → Does d new (take_data h part p) → emit ≡ d.emit
+      → parcels_of links' ≡ out_links to (out_of emit) (parcels_of (popped links (place from to)))
+      → Steps old (Event.Take to from) (record { setup = s; machine = machine_of s (set tiles at new) links'; entries = es })
   took_on old es emit d links' is added does sent out =
       subst (λ (w : Whole). Steps w (Event.Take to from) (record { setup = s; machine = machine_of s (set tiles at new) links'; entries = es })) is (
       record {
@@ -203,14 +202,14 @@ module _ (s : SetupValue) (h : Site) (tiles : List Tile) (links : List (List Cod
         added = added;
         moved =
             tile_step
-              ∙ ap Some (λ i. record {
-                outcome = sym there.outcome i;
-                machine = (pushed_links (machine.with_part to (machine.Is_tile (take_data (site s) part p).part) (machine.with_link from to (map parcel_of (drop 1 (get_or links (place from to) []))) (machine_of s tiles links))) to (take_data (site s) part p).out
+            ∙ ap Some (λ i. record {
+              outcome = sym there.outcome i;
+              machine = (pushed_links (machine.with_part to (machine.Is_tile (take_data (site s) part p).part) (machine.with_link from to (map parcel_of (drop 1 (get_or links (place from to) []))) (machine_of s tiles links))) to (take_data (site s) part p).out
                   ∙ (λ j. record (machine_of s tiles links) {
                     tiles = (ap (λ x. set tiles to x) (sym there.part) ∙ ap (λ k. set tiles k new) (sym index)) j;
                     links = (ap (λ o. out_links to o (set (parcels_of links) (place from to) (map parcel_of (drop 1 (get_or links (place from to) []))))) (sym there.out ∙ ap out_of (sym sent)) ∙ ap (out_links to (out_of emit)) (sym (parcels_popped links (place from to))) ∙ sym out) j;
                   })) i;
-              });
+            });
         setup = refl;
       }
       )

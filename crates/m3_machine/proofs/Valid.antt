@@ -1,13 +1,13 @@
 -- A valid setup has its activities at tiles from 2 on, so its site is sound.
-use Rattle.std.proofs.Common.{◌≡◌, ℕ, ◌<◌, ◌≤◌, Bool, true, false, List, [], ◌∷◌, Option, Some, None, refl, sym, ap, ◌∙◌, subst, arith}
-use Rattle.std.specs.Prelude.{not, ◌||◌, ◌&&◌, nat_le, nat_lt, is_some}
+use Rattle.std.proofs.Common.{◌≡◌, ℕ, ◌<◌, ◌≤◌, Bool, true, false, List, [], ◌∷◌, Option, Some, None, refl, ap, ◌∙◌, subst, arith}
+use Rattle.std.specs.Prelude.{not, ◌||◌, ◌&&◌, nat_le, nat_lt}
 use Rattle.std.proofs.lemmas.Bool.Decides.{nat_tests}
 use Rattle.m3_base.specs.declared.setup_line.SetupLine.{SetupLine}
 use Rattle.m3_base.specs.Setup.{Facts, SetupValue, IsValid, AllKept, no_lines, noted, is_machine}
 use Rattle.m3_base.proofs.Obeying.{valid_obeys}
-use Rattle.m3_machine.specs.Parts.{Home, Site, home_of, tile_of, tile_in}
+use Rattle.m3_machine.specs.Parts.{Home, home_of, tile_of, tile_in}
 use Rattle.m3_machine.specs.Homes.{home_tile}
-use Rattle.m3_machine.specs.Sound.{IsSetup, IsSound}
+use Rattle.m3_machine.specs.Sound.{IsSound}
 use Rattle.m3_machine.specs.Whole.{site, opened}
 use Rattle.m3_machine.proofs.Opens.{TilesOk}
 use Rattle.m3_machine.proofs.OpenedSound.{opens_sound}

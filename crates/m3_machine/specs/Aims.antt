@@ -1,8 +1,7 @@
 -- Where the packet of a command goes, told before the command is issued.
 use Rattle.std.specs.Prelude.{ℕ, Option, Some, None}
-use Rattle.m3_base.specs.declared.message.Message.{Message}
 use Rattle.m3_base.specs.declared.command.Command.{Command}
-use Rattle.m3_base.specs.Context.{Fetched, Endpoint, Free, Sends, Receives, Reaches, Context, endpoint}
+use Rattle.m3_base.specs.Context.{Fetched, Endpoint, Sends, Receives, Context, endpoint}
 use Rattle.m3_base.specs.Receive.{fetched_at}
 use Rattle.m3_machine.specs.Parts.{Site, tile_of}
 

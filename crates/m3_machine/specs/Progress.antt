@@ -1,9 +1,9 @@
 -- How far the contexts of an opening have come.
-use Rattle.std.specs.Prelude.{◌≡◌, ℕ, ◌≤◌, Bool, true, false, List, ◌∷◌, length, Option, Some, None, is_some, slice_index_or}
+use Rattle.std.specs.Prelude.{◌≡◌, ℕ, ◌≤◌, true, false, List, ◌∷◌, length, Option, Some, None, is_some, slice_index_or}
 use Rattle.std.specs.List.{list_any}
 use Rattle.m3_base.specs.declared.packet.Fresh.{Fresh}
 use Rattle.m3_base.specs.declared.setup_line.SetupLine.{SetupLine}
-use Rattle.m3_base.specs.Context.{Endpoint, Free, Context, endpoint, with_endpoint, opened}
+use Rattle.m3_base.specs.Context.{Free, Context, endpoint}
 use Rattle.m3_base.specs.Fits.{is_form}
 use Rattle.m3_base.specs.State.{State, Grant, context_of, grant_in}
 use Rattle.m3_base.specs.Grants.{holds_at}

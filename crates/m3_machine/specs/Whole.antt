@@ -1,15 +1,13 @@
 -- A machine with its setup and its journal, and what one step of it is.
-use Rattle.std.specs.Prelude.{◌≡◌, ℕ, ◌+◌, ◌*◌, ◌<◌, ◌≤◌, true, List, [], ◌∷◌, ◌++◌, length, map, slice_index_or, slice_set, Option, Some, None}
+use Rattle.std.specs.Prelude.{◌≡◌, ℕ, ◌+◌, ◌*◌, ◌≤◌, true, List, [], ◌∷◌, ◌++◌, length, slice_index_or, slice_set, Option, Some, None}
 use Rattle.m3_base.specs.declared.event.Event.{Event}
 use Rattle.m3_base.specs.declared.event.Outcome.{Outcome}
 use Rattle.m3_base.specs.declared.event.Entry.{Entry}
-use Rattle.m3_base.specs.declared.command.Command.{Command}
-use Rattle.m3_base.specs.Context.{Context, endpoint}
 use Rattle.m3_base.specs.declared.ids.FlightId.{FlightId}
 use Rattle.m3_base.specs.Flight.{name_of}
 use Rattle.m3_base.specs.Setup.{SetupValue, IsValid}
 use Rattle.m3_machine.specs.declared.machine.Machine.TheInside.{Inside}
-use Rattle.m3_machine.specs.Parts.{Site, Parcel, Data, Save, Saved, Restore, Yield, Closed, Tile}
+use Rattle.m3_machine.specs.Parts.{Site, Parcel, Data, Tile}
 use Rattle.m3_machine.specs.Naming.{is_home}
 use Rattle.std.specs.declared.collections.VecDeque.{VecDeque}
 use Rattle.std.specs.declared.alloc.Global.{Global}

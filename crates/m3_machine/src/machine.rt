@@ -13,7 +13,7 @@ use crate::audit::{credit_lines, tile_lines};
 use crate::links::{Front, Links};
 use crate::opening::{contexts, seated};
 use crate::site::Site;
-use crate::tile::{is_idle, TileDid, TilePart};
+use crate::tile::{TileDid, TilePart, is_idle};
 use m3_base::command::Command;
 use m3_base::event::{Entry, Event, IdleWhy, Outcome};
 use m3_base::ids::{ActId, FlightId, TileId};

@@ -1,4 +1,4 @@
-use Rattle.std.proofs.Common.{◌≡◌, ℕ, length, replicate, []}
+use Rattle.std.proofs.Common.{◌≡◌, length, replicate, []}
 use Rattle.m3_machine.specs.Links.{lists_in}
 use Rattle.m3_machine.proofs.links.no_parcels.Given as goal
 

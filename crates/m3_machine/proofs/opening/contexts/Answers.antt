@@ -1,4 +1,4 @@
-use Rattle.std.proofs.Common.{◌≡◌, ◌+◌, ◌∷◌, sym, subst, List, drop, get_or, ◌∙◌, ap}
+use Rattle.std.proofs.Common.{◌+◌, ◌∷◌, sym, subst, List, drop, ◌∙◌, ap}
 use Rattle.std.proofs.lemmas.List.{drop_more}
 use Rattle.m3_base.specs.declared.setup_line.SetupLine.{SetupLine}
 use Rattle.m3_machine.specs.Progress.{Progress}

@@ -1,6 +1,5 @@
-use Rattle.std.proofs.Common.{◌≡◌, ◌∷◌, sym, subst, List, set, Some}
+use Rattle.std.proofs.Common.{◌∷◌, sym, subst}
 use Rattle.m3_base.specs.declared.setup_line.SetupLine.{SetupLine}
-use Rattle.m3_base.specs.Context.{new_context}
 use Rattle.m3_machine.specs.Progress.{Progress}
 use Rattle.m3_machine.proofs.Contexts.{act_step}
 use Rattle.m3_machine.proofs.opening.read.Goals as goal
@@ -9,5 +8,5 @@ pub returns-in_ok-declare-in-Act : goal.returns-in_ok-declare-in-Act
 returns-in_ok-declare-in-Act c left p =
     subst (λ t. Progress c.args.setup.now t c.args.count left) (sym c.in_ok-declare-in-Act.ensures) (
     act_step c.args.setup.now c.args.table.now.items c.args.count c.in-Act.act c.in-Act.tile left
-      (subst (λ (l : SetupLine). Progress c.args.setup.now c.args.table.now.items c.args.count (l ∷ left)) c.in-Act.is p)
+    (subst (λ (l : SetupLine). Progress c.args.setup.now c.args.table.now.items c.args.count (l ∷ left)) c.in-Act.is p)
     )

@@ -1,8 +1,8 @@
-use Rattle.std.proofs.Common.{◌≡◌, ◌<◌, length, get_or, set, List, Option, Some, None, sym, subst, ap, ◌∙◌, arith}
+use Rattle.std.proofs.Common.{◌<◌, length, set, Option, None, sym, subst, ◌∙◌, arith}
 use Rattle.std.proofs.lemmas.List.{length-set, get_or_default}
 use Rattle.m3_base.specs.Context.{Context}
 use Rattle.m3_machine.specs.Parts.{Tile}
-use Rattle.m3_machine.specs.Low.{LowIn, AreLow}
+use Rattle.m3_machine.specs.Low.{LowIn}
 use Rattle.m3_machine.proofs.Seats.{low_at, low_left, low_set, first_low, AllLow}
 use Rattle.m3_machine.proofs.opening.seated.Goals as goal
 

@@ -1,4 +1,4 @@
-use Rattle.std.proofs.Common.{ap, map, sym}
+use Rattle.std.proofs.Common.{ap, map}
 use Rattle.m3_machine.specs.Homes.{value_of}
 use Rattle.m3_machine.proofs.Homes.{none_declared}
 use Rattle.m3_machine.proofs.site.Site.start.Goals as goal
