@@ -3,16 +3,26 @@
 
 use m3_base::standard_ends::{ReaderSource, WriterSink};
 use m3_cmd::run_words;
+use std::alloc::AllocError;
 use std::process::ExitCode;
 use std::{env, io};
 
-/// The words of the command line, without the program's name.
-fn words(rt: &HostRuntime) -> io::Result<Vec<String>> {
+/// The words of the command line, without the program's name. A list with a word that isn't UTF-8 is no form, and stands
+/// here as the list without words, which is none either.
+fn words(rt: &HostRuntime) -> Result<Vec<String>, AllocError> {
     let mut words = Vec::new(rt.alloc());
-    for word in env::args(rt)?.skip(1) {
-        words.push(word)?;
+    match env::args(rt) {
+        Ok(args) => {
+            for word in args.skip(1) {
+                words.push(word)?;
+            }
+            Ok(words)
+        }
+        Err(error) => match error.kind() {
+            io::ErrorKind::OutOfMemory => Err(AllocError),
+            _ => Ok(words),
+        },
     }
-    Ok(words)
 }
 
 fn main(rt: HostRuntime) -> ExitCode {
