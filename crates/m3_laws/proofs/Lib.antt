@@ -40,3 +40,4 @@ pub mod Alone
 pub mod Order
 pub mod Past
 pub mod Ordered
+pub mod Shown
