@@ -41,3 +41,4 @@ pub mod Order
 pub mod Past
 pub mod Ordered
 pub mod Shown
+pub mod Fetched
