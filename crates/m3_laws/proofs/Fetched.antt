@@ -207,3 +207,356 @@ module _ (g : ℕ) (s : State) (law : Invariant s) (fetched landed : List Messag
         by_leaves : Leaves g c i → Shown g (record s { contexts = put_context i.context s.contexts; flights = with_packet i.packet s.flights }) (fetched ++ shown_by g i.told) landed
         by_leaves (inr f) = fetch_shown f
         by_leaves (inl l) = subst (λ y. Shown g (record s { contexts = put_context i.context s.contexts; flights = with_packet i.packet s.flights }) y landed) (sym (ap (λ y. fetched ++ y) l.1 ∙ append-nil fetched)) (put_shown s.memory c i.context (with_packet i.packet s.flights) there l.0 issued_kept)
+
+  -- ---- messages
+
+  joined_same : (m : Message) (e : Endpoint) → only_of g m ≡ [] → (h : ℕ) → grant_of (joined m e) ≡ Some h → (grant_of e ≡ Some h) × (sent_of g (unread_of e) ≡ sent_of g (unread_of (joined m e)))
+  joined_same m Free z h w = (w, refl)
+  joined_same m (Sends r) z h w = (w, refl)
+  joined_same m (Reaches r) z h w = (w, refl)
+  joined_same m (Receives r) z h w = (w, sym (sent_of-push g r.unread m ∙ (ap (λ y. sent_of g r.unread ++ y) z ∙ append-nil (sent_of g r.unread))))
+
+  taken_same : (ep : ℕ) (m : Message) (c : Context) → only_of g m ≡ [] → AllSame g c.endpoints (taken ep m c).endpoints
+  taken_same ep m c z = by_flags (m.header.flags == 0)
+    where
+      first : AllSame g c.endpoints (set c.endpoints ep (joined m (endpoint c ep)))
+      first = same_set g c.endpoints ep (joined m (endpoint c ep)) (joined_same m (endpoint c ep) z)
+
+      by_flags : (b : Bool) → AllSame g c.endpoints (if b then with_endpoint c ep (joined m (endpoint c ep)) else with_credit m.header.send (with_endpoint c ep (joined m (endpoint c ep)))).endpoints
+      by_flags true = first
+      by_flags false = same_then g c.endpoints (set c.endpoints ep (joined m (endpoint c ep))) (credited m.header.send (set c.endpoints ep (joined m (endpoint c ep)))) first (same_credited g m.header.send (set c.endpoints ep (joined m (endpoint c ep))))
+
+  module _ (id : FlightId) (to ep h : ℕ) (m : Message) (x : Context) (at : context_of to s.contexts ≡ Some x) (find : flight id s.flights ≡ Some (Packet.Message to ep h m)) where
+    found : flight (message_id m) s.flights ≡ Some (Packet.Message to ep h m)
+    found = subst (λ z. flight z s.flights ≡ Some (Packet.Message to ep h m)) (name_found id (Packet.Message to ep h m) s.flights find) find
+
+    answer_kept : (answer : Answer) → Installs (change_flight (Packet.Answer (message_id m) answer) s.flights)
+    answer_kept answer = changed_kept (Packet.Message to ep h m) (Packet.Answer (message_id m) answer) found tt
+
+    taken_act : (taken ep m x).act ≡ x.act
+    taken_act = by_flags (m.header.flags == 0)
+      where
+        by_flags : (b : Bool) → (if b then with_endpoint x ep (joined m (endpoint x ep)) else with_credit m.header.send (with_endpoint x ep (joined m (endpoint x ep)))).act ≡ x.act
+        by_flags true = refl
+        by_flags false = refl
+
+    there_taken : context_of (taken ep m x).act s.contexts ≡ Some x
+    there_taken = subst (λ z. context_of z s.contexts ≡ Some x) (sym taken_act) (here_of to x at)
+
+    -- a message of g that joins the unread ones
+    joins : Invariant (after_landing s (land_by ep m x None)) → land_refusal h m (endpoint x ep) ≡ None → is_sent_by g m ≡ true → (r : ReceiveRecord) → endpoint x ep ≡ Receives r → Shown g (after_landing s (land_by ep m x None)) fetched (landed ++ m ∷ [])
+    joins after w sent r here =
+        let same : r.grant ≡ h = grind (arith, nat_tests, ap (land_refusal h m) (sym here) ∙ w) in
+        let plain : (m.header.flags == 0) ≡ true = grind (arith, sent) in
+        let p : IsParent s.grants g r.grant = subst (IsParent s.grants g) (sym same) (child_parent s.grants g h m (law.lawful.traffic.packets id (Packet.Message to ep h m) find).1 sent) in
+        let inside = in_range x.endpoints ep (λ q. clash r (sym here ∙ q)) in
+        let ends : (taken ep m x).endpoints ≡ set x.endpoints ep (Receives (with_unread r m)) = ap (λ b. (if b then with_endpoint x ep (joined m (endpoint x ep)) else with_credit m.header.send (with_endpoint x ep (joined m (endpoint x ep)))).endpoints) plain ∙ ap (λ y. set x.endpoints ep (joined m y)) here in
+        let place : endpoint (taken ep m x) ep ≡ Receives (with_unread r m) = ap (λ es. get_or es ep Free) ends ∙ get_or-set_same x.endpoints ep (Receives (with_unread r m)) Free inside in
+        let before : fetched ++ sent_of g r.unread ≡ landed = ap (λ y. fetched ++ sent_of g (unread_of y)) (sym here) ∙ old.at to ep r.grant x at (ap grant_of here) p in
+        let more : fetched ++ sent_of g (r.unread ++ m ∷ []) ≡ landed ++ m ∷ [] =
+          ap (λ y. fetched ++ y) (sent_of-push g r.unread m)
+          ∙ (ap (λ b. fetched ++ (sent_of g r.unread ++ (if b then m ∷ [] else []))) sent
+          ∙ (sym (append_assoc fetched (sent_of g r.unread) (m ∷ [])) ∙ ap (λ y. y ++ m ∷ []) before)) in
+        shown_at g (after_landing s (land_by ep m x None)) after (taken ep m x).act ep r.grant (taken ep m x) (Receives (with_unread r m)) (find-replaced_same act_of same_act act_before (taken ep m x) x s.contexts (same_act-itself (taken ep m x).act) there_taken) place refl p fetched (landed ++ m ∷ []) more
+      where
+        clash : (r : ReceiveRecord) → Receives r ≡ Free → ⊥
+        clash r q = cc
+
+    message_shown : (why : Option Refusal) → land_refusal h m (endpoint x ep) ≡ why → Invariant (after_landing s (land_by ep m x why)) → Shown g (after_landing s (land_by ep m x why)) fetched (landed ++ if_landed why (only_of g m))
+    message_shown (Some w) e after = subst (λ y. Shown g (after_landing s (land_by ep m x (Some w))) fetched y) (sym (append-nil landed)) (put_shown s.memory x x (change_flight (Packet.Answer (message_id m) (Answer.Refused w)) s.flights) (here_of to x at) (same_itself g x.endpoints) (answer_kept (Answer.Refused w)))
+    message_shown None e after = by_test (is_sent_by g m) refl
+      where
+        lands : (e' : Endpoint) → endpoint x ep ≡ e' → is_sent_by g m ≡ true → Shown g (after_landing s (land_by ep m x None)) fetched (landed ++ m ∷ [])
+        lands (Receives r) here sent = joins after e sent r here
+        lands Free here sent = absurd (let z = ap (land_refusal h m) (sym here) ∙ e in cc)
+        lands (Sends r) here sent = absurd (let z = ap (land_refusal h m) (sym here) ∙ e in cc)
+        lands (Reaches r) here sent = absurd (let z = ap (land_refusal h m) (sym here) ∙ e in cc)
+
+        by_test : (b : Bool) → is_sent_by g m ≡ b → Shown g (after_landing s (land_by ep m x None)) fetched (landed ++ only_of g m)
+        by_test true w = subst (λ y. Shown g (after_landing s (land_by ep m x None)) fetched (landed ++ y)) (sym (ap (λ b. if b then m ∷ [] else []) w)) (lands (endpoint x ep) refl w)
+        by_test false w =
+            let z : only_of g m ≡ [] = ap (λ b. if b then m ∷ [] else []) w in
+            subst (λ y. Shown g (after_landing s (land_by ep m x None)) fetched y) (sym (ap (λ y. landed ++ y) z ∙ append-nil landed)) (put_shown s.memory x (taken ep m x) (change_flight (Packet.Answer (message_id m) (landed_answer m)) s.flights) there_taken (taken_same ep m x z) (answer_kept (landed_answer m)))
+
+  -- ---- orders that land
+
+  ended_shown : (id : FlightId) (a : ℕ) (c d : Context) → context_of a s.contexts ≡ Some c → d.act ≡ c.act → AllSame g c.endpoints d.endpoints → Shown g (after_ending s id d) fetched landed
+  ended_shown id a c d at same all = put_shown s.memory c d (end_flight id s.flights) (subst (λ z. context_of z s.contexts ≡ Some c) (sym same) (here_of a c at)) all (ended_kept id)
+
+  opened_unread : (f : Fresh) → unread_of (opened f) ≡ []
+  opened_unread (Fresh.Send k a b d l z n) = refl
+  opened_unread (Fresh.Receive k slots size) = refl
+  opened_unread (Fresh.Memory k start extent perm) = refl
+
+  opened_grant : (f : Fresh) → grant_of (opened f) ≡ Some (number_of f)
+  opened_grant (Fresh.Send k a b d l z n) = refl
+  opened_grant (Fresh.Receive k slots size) = refl
+  opened_grant (Fresh.Memory k start extent perm) = refl
+
+  install_shown : (id x : FlightId) (to ep : ℕ) (f : Fresh) (c : Context) → context_of to s.contexts ≡ Some c → flight id s.flights ≡ Some (Packet.Install x to ep f) → Shown g (after_ending s id (with_endpoint c ep (opened f))) fetched landed
+  install_shown id x to ep f c at find = record {
+    at = λ a i h y e w p. by_found a i h y w p (found_after a y c (with_endpoint c ep (opened f)) s.contexts (here_of to c at) e);
+    coming = λ j z b k r e p. old.coming j z b k r (ended_kept id j z b k r e) p;
+    unmade = old.unmade;
+    prefix = old.prefix;
+  }
+    where
+      by_place : (i h : ℕ) → grant_of (endpoint (with_endpoint c ep (opened f)) i) ≡ Some h → IsParent s.grants g h → (get_or (set c.endpoints ep (opened f)) i Free ≡ get_or c.endpoints i Free) ⊎ ((i ≡ ep) × (get_or (set c.endpoints ep (opened f)) i Free ≡ opened f)) → fetched ++ sent_of g (unread_of (endpoint (with_endpoint c ep (opened f)) i)) ≡ landed
+      by_place i h w p (inl q) = ap (λ z. fetched ++ sent_of g (unread_of z)) q ∙ old.at to i h c at (ap grant_of (sym q) ∙ w) p
+      by_place i h w p (inr q) =
+          let n : Some (number_of f) ≡ Some h = sym (opened_grant f) ∙ (ap grant_of (sym q.1) ∙ w) in
+          let k : h ≡ number_of f = cc in
+          ap (λ z. fetched ++ sent_of g (unread_of z)) q.1 ∙ (ap (λ ms. fetched ++ sent_of g ms) (opened_unread f) ∙ (append-nil fetched ∙ old.coming id x to ep f find (subst (IsParent s.grants g) k p)))
+
+      by_found : (a i h : ℕ) (y : Context) → grant_of (endpoint y i) ≡ Some h → IsParent s.grants g h → ((a ≡ c.act) × (y ≡ with_endpoint c ep (opened f))) ⊎ ((same_act a c.act ≡ false) × (context_of a s.contexts ≡ Some y)) → fetched ++ sent_of g (unread_of (endpoint y i)) ≡ landed
+      by_found a i h y w p (inr q) = old.at a i h y q.1 w p
+      by_found a i h y w p (inl q) = ap (λ z. fetched ++ sent_of g (unread_of (endpoint z i))) q.1 ∙ by_place i h (ap (λ z. grant_of (endpoint z i)) (sym q.1) ∙ w) p (at_set c.endpoints ep i (opened f))
+
+  closed_same : (e : Endpoint) (h : ℕ) → grant_of (closed_at e) ≡ Some h → (grant_of e ≡ Some h) × (sent_of g (unread_of e) ≡ sent_of g (unread_of (closed_at e)))
+  closed_same Free h w = (w, refl)
+  closed_same (Sends r) h w = (w, refl)
+  closed_same (Receives r) h w = (w, refl)
+  closed_same (Reaches r) h w = (w, refl)
+
+  settled_same : (k : Kind) (t : ℕ) (answer : Answer) (e : Endpoint) → (grant_of (settled k t answer e) ≡ grant_of e) × (unread_of (settled k t answer e) ≡ unread_of e)
+  settled_same Sending t (Answer.Refused why) (Sends r) = (refl, refl)
+  settled_same Replying t Answer.Replied (Receives r) = (refl, refl)
+  settled_same Replying t (Answer.Refused why) (Receives r) = (refl, refl)
+  settled_same k t answer e = (refl, refl)
+
+  answered_shown : (id : FlightId) (a : ℕ) (c : Context) (f : Flying) (answer : Answer) → context_of a s.contexts ≡ Some c → Shown g (after_ending s id (answered f answer c)) fetched landed
+  answered_shown id a c f answer at =
+      let z = settled_same f.kind f.token answer (endpoint c f.ep) in
+      ended_shown id a c (answered f answer c) at refl (same_set g c.endpoints f.ep (settled f.kind f.token answer (endpoint c f.ep)) (λ h w. (sym z.0 ∙ w, ap (sent_of g) (sym z.1))))
+
+  served_shown : (memory : List ℕ) (p q : Packet) → flight (name_of q) s.flights ≡ Some p → IsData q → Shown g (record s { memory = memory; flights = change_flight q s.flights }) fetched landed
+  served_shown memory p q find d = shown_stays g s (record s { memory = memory; flights = change_flight q s.flights }) fetched landed (record { parents = λ h p. p; unmade = λ e. e; contexts = before_same g s; flights = changed_kept p q find d }) old
+
+-- ---- grants
+
+parent_changed : (gs ks : List Grant) (f : ℕ → Grant → Grant) → Changes gs ks f → (g : ℕ) → parent_at (grant_in ks g) ≡ parent_at (grant_in gs g)
+parent_changed gs ks f ch g = ap parent_at (ch.at g) ∙ by_grant (grant_in gs g)
+  where
+    by_grant : (o : Option Grant) → parent_at (option_map (f g) o) ≡ parent_at o
+    by_grant None = refl
+    by_grant (Some x) = ap parent_of (ch.line g x)
+
+unmade_changed : (gs ks : List Grant) (f : ℕ → Grant → Grant) → Changes gs ks f → (g : ℕ) → grant_in ks g ≡ None → grant_in gs g ≡ None
+unmade_changed gs ks f ch g e = by_grant (grant_in gs g) (sym (ch.at g) ∙ e)
+  where
+    by_grant : (o : Option Grant) → option_map (f g) o ≡ None → o ≡ None
+    by_grant None e = refl
+    by_grant (Some x) e = absurd (cc)
+
+-- where grants keep their lines
+grants_shown : (g : ℕ) (s : State) (ks : List Grant) (f : ℕ → Grant → Grant) (fetched landed : List Message) → Changes s.grants ks f → Shown g s fetched landed → Shown g (record s { grants = ks }) fetched landed
+grants_shown g s ks f fetched landed ch old = shown_stays g s (record s { grants = ks }) fetched landed (record { parents = λ h p. sym (parent_changed s.grants ks f ch g) ∙ p; unmade = unmade_changed s.grants ks f ch g; contexts = before_same g s; flights = λ id x to ep f e. e }) old
+
+-- the kernel sends a Close
+close_shown : (g : ℕ) (s : State) (p : Packet) (to ep h : ℕ) (fetched landed : List Message) → p ≡ Packet.Close (kernel_id s) to ep h → Apart (name_of p) s.flights → Shown g s fetched landed → Shown g (record s { flights = new_flight p s.flights; kernel_next = s.kernel_next + 1 }) fetched landed
+close_shown g s p to ep h fetched landed is apart old = shown_stays g s (record s { flights = new_flight p s.flights; kernel_next = s.kernel_next + 1 }) fetched landed (record { parents = λ h p. p; unmade = λ e. e; contexts = before_same g s; flights = λ id x t e f w. by_new id x t e f (found_new id (Packet.Install x t e f) p s.flights apart w) }) old
+  where
+    clash : (x : FlightId) (t e : ℕ) (f : Fresh) → Packet.Install x t e f ≡ Packet.Close (kernel_id s) to ep h → ⊥
+    clash x t e f q = cc
+
+    by_new : (id x : FlightId) (t e : ℕ) (f : Fresh) → (Packet.Install x t e f ≡ p) ⊎ (flight id s.flights ≡ Some (Packet.Install x t e f)) → flight id s.flights ≡ Some (Packet.Install x t e f)
+    by_new id x t e f (inr z) = z
+    by_new id x t e f (inl z) = absurd (clash x t e f (z ∙ is))
+
+-- a new grant
+made_shown : (g : ℕ) (s : State) (line : GrantLine) (f : Fresh) (fetched landed : List Message) → Invariant s → Invariant (made s line f) → form (length s.grants + 1) line (undone (parent_in s.grants (parent_of line))) ≡ Some f → Shown g s fetched landed → Shown g (made s line f) fetched landed
+made_shown g s line f fetched landed law after made' old = by_grant (grant_in s.grants g) refl
+  where
+    -- no grant's parent is the new one
+    not_new : IsParent (s.grants ++ new_grant line f ∷ []) g (number_of f) → ⊥
+    not_new p = by_last (grant_in (s.grants ++ new_grant line f ∷ []) g) refl p
+      where
+        long : length (s.grants ++ new_grant line f ∷ []) ≡ length s.grants + 1
+        long = long_by s.grants
+          where
+            long_by : (gs : List Grant) → length (gs ++ new_grant line f ∷ []) ≡ length gs + 1
+            long_by [] = refl
+            long_by (x ∷ gs) = let z = long_by gs in omega (arith, z)
+
+        by_last : (o : Option Grant) → grant_in (s.grants ++ new_grant line f ∷ []) g ≡ o → parent_at o ≡ Some (number_of f) → ⊥
+        by_last None e p = cc
+        by_last (Some x) e p =
+            let n : number_of f ≡ length s.grants + 1 = form_number (length s.grants + 1) line (undone (parent_in s.grants (parent_of line))) f made' in
+            let past = grant_past (s.grants ++ new_grant line f ∷ []) g x e in
+            let low : IsAfter (Some (number_of f)) g = subst (λ o. IsAfter o g) p (after.lawful.placed.grants g x e).before in
+            omega (arith, n, past, low, long)
+
+    new_at : Apart (kernel_id s) s.flights
+    new_at = law.lawful.traffic.orders s.kernel_next (omega arith)
+
+    by_new : {A : Type 0} (id x : FlightId) (to ep : ℕ) (k : Fresh) → IsParent (s.grants ++ new_grant line f ∷ []) g (number_of k) → (flight id s.flights ≡ Some (Packet.Install x to ep k) → A) → (Packet.Install x to ep k ≡ Packet.Install (kernel_id s) (holder line) (holder_ep line) f) ⊎ (flight id s.flights ≡ Some (Packet.Install x to ep k)) → A
+    by_new id x to ep k p more (inr z) = more z
+    by_new id x to ep k p more (inl z) = let q : k ≡ f = cc in absurd (not_new (subst (λ y. IsParent (s.grants ++ new_grant line f ∷ []) g (number_of y)) q p))
+
+    queue_none : (a ep h : ℕ) (c : Context) → context_of a s.contexts ≡ Some c → (e : Endpoint) → endpoint c ep ≡ e → grant_in s.grants g ≡ None → sent_of g (unread_of e) ≡ []
+    queue_none a ep h c at Free q n = refl
+    queue_none a ep h c at (Sends r) q n = refl
+    queue_none a ep h c at (Reaches r) q n = refl
+    queue_none a ep h c at (Receives r) q n = none_of_sent s.grants g r.grant r.unread (subst (QueueLawful s.grants) q ((law.lawful.traffic.contexts a c at).queues ep)).0 n
+
+    by_grant : (o : Option Grant) → grant_in s.grants g ≡ o → Shown g (made s line f) fetched landed
+    by_grant None e = record {
+      at = λ a ep h c at w p. ap (λ y. fetched ++ y) (queue_none a ep h c at (endpoint c ep) refl e) ∙ (append-nil fetched ∙ old.unmade e);
+      coming = λ id x to ep k w p. old.unmade e;
+      unmade = λ z. old.unmade e;
+      prefix = old.prefix;
+    }
+    by_grant (Some y) e =
+        let past = grant_past s.grants g y e in
+        let other : (g == (length s.grants + 1)) ≡ false = grind (arith, nat_tests, past) in
+        let same : grant_in (s.grants ++ new_grant line f ∷ []) g ≡ grant_in s.grants g = grant_added s.grants (new_grant line f) g ∙ ap (λ b. if b then Some (new_grant line f) else grant_in s.grants g) other in
+        kept same
+      where
+        kept : grant_in (s.grants ++ new_grant line f ∷ []) g ≡ grant_in s.grants g → Shown g (made s line f) fetched landed
+        kept same = record {
+          at = λ a ep h c at w p. old.at a ep h c at w (sym (ap parent_at same) ∙ p);
+          coming = λ id x to ep k w p. by_new id x to ep k p (λ z. old.coming id x to ep k z (sym (ap parent_at same) ∙ p)) (found_new id (Packet.Install x to ep k) (Packet.Install (kernel_id s) (holder line) (holder_ep line) f) s.flights new_at w);
+          unmade = λ z. old.unmade (sym same ∙ z);
+          prefix = old.prefix;
+        }
+
+-- ---- any step
+
+module _ (g : ℕ) (s : State) (law : Invariant s) (fetched landed : List Message) (old : Shown g s fetched landed) where
+  none_more : (n : State) → Shown g n fetched landed → Shown g n (fetched ++ []) (landed ++ [])
+  none_more n = nil_both g n fetched landed
+
+  landed_more : (n : State) (ms : List Message) → Shown g n fetched (landed ++ ms) → Shown g n (fetched ++ []) (landed ++ ms)
+  landed_more n ms h = subst (λ y. Shown g n y (landed ++ ms)) (sym (append-nil fetched)) h
+
+  fetched_more : (n : State) (ms : List Message) → Shown g n (fetched ++ ms) landed → Shown g n (fetched ++ ms) (landed ++ [])
+  fetched_more n ms h = subst (λ y. Shown g n (fetched ++ ms) y) (sym (append-nil landed)) h
+
+  abbrev After : Option Next → Type 0
+  After o = (n : Next) → o ≡ Some n → Invariant n.state
+
+  issue_step : (a : ℕ) (k : Command) (o : Option Context) → context_of a s.contexts ≡ o → After (issue_in s o k) → AllShown g (issue_in s o k) (fetched ++ fetched_from g o k) (landed ++ [])
+  issue_step a k None e after = tt
+  issue_step a k (Some c) e after = by_issue (issue c k) refl after
+    where
+      by_issue : (o : Option Issued) → issue c k ≡ o → After (issued_in s o) → AllShown g (issued_in s o) (fetched ++ fetched_by g o) (landed ++ [])
+      by_issue None w after = tt
+      by_issue (Some i) w after = fetched_more (record s { contexts = put_context i.context s.contexts; flights = with_packet i.packet s.flights }) (shown_by g i.told) (issue_shown g s law fetched landed old a k c i e w (after _ refl))
+
+  await_step : (ep : ℕ) (o : Option Context) → AllShown g (await_in s o ep) (fetched ++ []) (landed ++ [])
+  await_step ep None = tt
+  await_step ep (Some c) = none_more s old
+
+  message_step : (id : FlightId) (to ep h : ℕ) (m : Message) → flight id s.flights ≡ Some (Packet.Message to ep h m) → (o : Option Context) → context_of to s.contexts ≡ o → After (message_in s id ep h m o) → AllShown g (message_in s id ep h m o) (fetched ++ []) (landed ++ if_landed (verdict ep h m o) (only_of g m))
+  message_step id to ep h m find None e after = tt
+  message_step id to ep h m find (Some x) e after = landed_more (after_landing s (land_by ep m x (land_refusal h m (endpoint x ep)))) (if_landed (land_refusal h m (endpoint x ep)) (only_of g m)) (message_shown g s law fetched landed old id to ep h m x e find (land_refusal h m (endpoint x ep)) refl (after _ refl))
+
+  credit_step : (id : FlightId) (to h : ℕ) (o : Option Context) → context_of to s.contexts ≡ o → AllShown g (credit_in s id h o) (fetched ++ []) (landed ++ [])
+  credit_step id to h None e = tt
+  credit_step id to h (Some x) e = none_more (after_ending s id (with_credit h x)) (ended_shown g s law fetched landed old id to x (with_credit h x) e refl (same_credited g h x.endpoints))
+
+  install_step : (id y : FlightId) (to ep : ℕ) (f : Fresh) → flight id s.flights ≡ Some (Packet.Install y to ep f) → (o : Option Context) → context_of to s.contexts ≡ o → AllShown g (install_in s id ep f o) (fetched ++ []) (landed ++ [])
+  install_step id y to ep f find None e = tt
+  install_step id y to ep f find (Some x) e = none_more (after_ending s id (with_endpoint x ep (opened f))) (install_shown g s law fetched landed old id y to ep f x e find)
+
+  close_step : (id : FlightId) (to ep h : ℕ) (o : Option Context) → context_of to s.contexts ≡ o → AllShown g (close_in s id ep h o) (fetched ++ []) (landed ++ [])
+  close_step id to ep h None e = tt
+  close_step id to ep h (Some x) e = by_test (has_live h (endpoint x ep))
+    where
+      by_test : (b : Bool) → AllShown g (if b then then_say (if flies_at ep x then Starts_closing id h else Is_closed id h) (after_ending s id (with_endpoint x ep (closed_at (endpoint x ep)))) else None) (fetched ++ []) (landed ++ [])
+      by_test true = none_more (after_ending s id (with_endpoint x ep (closed_at (endpoint x ep)))) (ended_shown g s law fetched landed old id to x (with_endpoint x ep (closed_at (endpoint x ep))) e refl (same_set g x.endpoints ep (closed_at (endpoint x ep)) (closed_same g s law fetched landed old (endpoint x ep))))
+      by_test false = tt
+
+  land_step : (id : FlightId) (o : Option Packet) → flight id s.flights ≡ o → After (land_in s id o) → AllShown g (land_in s id o) (fetched ++ []) (landed ++ landed_in g s o)
+  land_step id None e after = tt
+  land_step id (Some (Packet.Message to ep h m)) e after = message_step id to ep h m e (context_of to s.contexts) refl after
+  land_step id (Some (Packet.Credit y to h)) e after = credit_step id to h (context_of to s.contexts) refl
+  land_step id (Some (Packet.Read y h place buffer)) e after = none_more (record s { flights = change_flight (Packet.Answer id (Answer.Bytes (bytes_at place (length buffer) s.memory))) s.flights }) (served_shown g s law fetched landed old s.memory (Packet.Read y h place buffer) (Packet.Answer id (Answer.Bytes (bytes_at place (length buffer) s.memory))) e tt)
+  land_step id (Some (Packet.Write y h place payload)) e after = none_more (record s { memory = written_at place payload s.memory; flights = change_flight (Packet.Answer id Answer.Written) s.flights }) (served_shown g s law fetched landed old (written_at place payload s.memory) (Packet.Write y h place payload) (Packet.Answer id Answer.Written) e tt)
+  land_step id (Some (Packet.Answer y answer)) e after = tt
+  land_step id (Some (Packet.Install y to ep f)) e after = install_step id y to ep f e (context_of to s.contexts) refl
+  land_step id (Some (Packet.Close y to ep h)) e after = close_step id to ep h (context_of to s.contexts) refl
+
+  settle_step : (id : FlightId) (answer : Answer) (c : Context) → context_of id.issuer s.contexts ≡ Some c → (o : Option Flying) → AllShown g (settle_in s id answer c o) (fetched ++ []) (landed ++ [])
+  settle_step id answer c e None = tt
+  settle_step id answer c e (Some f) = none_more (after_ending s id (answered f answer c)) (answered_shown g s law fetched landed old id id.issuer c f answer e)
+
+  answer_step : (id : FlightId) (answer : Answer) (o : Option Context) → context_of id.issuer s.contexts ≡ o → AllShown g (answer_in s id answer o) (fetched ++ []) (landed ++ [])
+  answer_step id answer None e = tt
+  answer_step id answer (Some c) e = settle_step id answer c e (flying_at id.number c.flying)
+
+  answered_step : (id : FlightId) (o : Option Packet) → AllShown g (answered_in s id o) (fetched ++ []) (landed ++ [])
+  answered_step id (Some (Packet.Answer y answer)) = answer_step id answer (context_of id.issuer s.contexts) refl
+  answered_step id o = tt
+
+  make_step : (line : GrantLine) (why : Option No) (o : Option Fresh) → form (length s.grants + 1) line (undone (parent_in s.grants (parent_of line))) ≡ o → After (make_in s line why o) → AllShown g (make_in s line why o) (fetched ++ []) (landed ++ [])
+  make_step line (Some why) o e after = none_more s old
+  make_step line None None e after = tt
+  make_step line None (Some f) e after = none_more (made s line f) (made_shown g s line f fetched landed law (after _ refl) e old)
+
+  make_for_step : (line : GrantLine) (o : Option Context) → After (make_for s line o) → AllShown g (make_for s line o) (fetched ++ []) (landed ++ [])
+  make_for_step line None after = tt
+  make_for_step line (Some x) after = make_step line (make_refusal (length s.memory) s.grants line) (form (length s.grants + 1) line (undone (parent_in s.grants (parent_of line)))) refl after
+
+  revoke_step : (h : ℕ) (why : Option No) → AllShown g (revoke_in s h why) (fetched ++ []) (landed ++ [])
+  revoke_step h (Some why) = none_more s old
+  revoke_step h None =
+      let bs = marks_under h 1 [] s.grants in
+      let hs = closing_where bs s.grants in
+      none_more (record s { grants = revoked s.grants h }) (grants_shown g (record s { grants = hs }) (rooted hs h) (at_one h to_root) fetched landed (one_changes hs h to_root (λ x. (refl, refl))) (grants_shown g s hs (λ k x. to_closing (or_false (slice_get bs (k - 1))) x) fetched landed (closing_changes bs s.grants) old))
+
+  send_close_step : (h : ℕ) (o : Option Grant) → AllShown g (send_close_in s h o) (fetched ++ []) (landed ++ [])
+  send_close_step h None = tt
+  send_close_step h (Some x) = by_test (may_close s.grants h (Some x))
+    where
+      by_test : (b : Bool) → AllShown g (if b then then_say (Sends_close h (kernel_id s)) (close_sent s h x) else None) (fetched ++ []) (landed ++ [])
+      by_test true = none_more (close_sent s h x) (close_shown g (record s { grants = change_grant s.grants h to_sent }) (Packet.Close (kernel_id s) (holder x.line) (holder_ep x.line) h) (holder x.line) (holder_ep x.line) h fetched landed refl (law.lawful.traffic.orders s.kernel_next (omega arith)) (grants_shown g s (change_grant s.grants h to_sent) (at_one h to_sent) fetched landed (one_changes s.grants h to_sent (λ y. (refl, refl))) old))
+      by_test false = tt
+
+  free_step : (h a ep : ℕ) (o : Option Context) → context_of a s.contexts ≡ o → AllShown g (free_in s h ep o) (fetched ++ []) (landed ++ [])
+  free_step h a ep None e = tt
+  free_step h a ep (Some c) e = by_test (has_closing h (endpoint c ep) && not (flies_at ep c))
+    where
+      absent : (k : ℕ) → grant_of Free ≡ Some k → (grant_of (endpoint c ep) ≡ Some k) × (sent_of g (unread_of (endpoint c ep)) ≡ sent_of g (unread_of Free))
+      absent k w = absurd (cc)
+
+      by_test : (b : Bool) → AllShown g (if b then then_say (Frees h) (record s { contexts = put_context (with_endpoint c ep Free) s.contexts; grants = change_grant s.grants h to_closed }) else None) (fetched ++ []) (landed ++ [])
+      by_test true = none_more (record s { contexts = put_context (with_endpoint c ep Free) s.contexts; grants = change_grant s.grants h to_closed }) (grants_shown g (record s { contexts = put_context (with_endpoint c ep Free) s.contexts }) (change_grant s.grants h to_closed) (at_one h to_closed) fetched landed (one_changes s.grants h to_closed (λ y. (refl, refl))) (put_shown g s law fetched landed old s.memory c (with_endpoint c ep Free) s.flights (subst (λ z. context_of z s.contexts ≡ Some c) (act_found a c s.contexts e) e) (same_set g c.endpoints ep Free absent) (λ id x to i f w. w)))
+      by_test false = tt
+
+  closed_step : (h : ℕ) (o : Option Grant) → AllShown g (closed_in s h o) (fetched ++ []) (landed ++ [])
+  closed_step h None = tt
+  closed_step h (Some x) = free_step h (holder x.line) (holder_ep x.line) (context_of (holder x.line) s.contexts) refl
+
+  done_step : (h : ℕ) (o : Option Grant) → AllShown g (done_in s h o) (fetched ++ []) (landed ++ [])
+  done_step h None = tt
+  done_step h (Some x) = by_test (is_closed_grant x.standing)
+    where
+      by_test : (b : Bool) → AllShown g (if b then then_say (Is_done h x.is_root) (record s { grants = change_grant s.grants h to_done }) else None) (fetched ++ []) (landed ++ [])
+      by_test true = none_more (record s { grants = change_grant s.grants h to_done }) (grants_shown g s (change_grant s.grants h to_done) (at_one h to_done) fetched landed (one_changes s.grants h to_done (λ y. (refl, refl))) old)
+      by_test false = tt
+
+  pub step_shown : (t : Step) → After (istep s t) → AllShown g (istep s t) (fetched ++ fetched_at g s t) (landed ++ landed_at g s t)
+  step_shown (Step.Issue a c) after = issue_step a c (context_of a s.contexts) refl after
+  step_shown (Step.Await a ep) after = await_step ep (context_of a s.contexts)
+  step_shown (Step.Land id) after = land_step id (flight id s.flights) refl after
+  step_shown (Step.Answered id) after = answered_step id (flight id s.flights)
+  step_shown (Step.Make line) after = make_for_step line (context_of (holder line) s.contexts) after
+  step_shown (Step.Revoke h) after = revoke_step h (revoke_refusal (grant_in s.grants h))
+  step_shown (Step.Close h) after = send_close_step h (grant_in s.grants h)
+  step_shown (Step.Closed h) after = closed_step h (grant_in s.grants h)
+  step_shown (Step.Done h) after = done_step h (grant_in s.grants h)
+
+-- ---- whole runs
+
+pub run_shown : (g : ℕ) (s : State) (ts : List Step) → Invariant s → AllFit ts → AllExist s ts → (fetched landed : List Message) → Shown g s fetched landed → Shown g (final s ts) (fetched ++ collect (fetched_at g) s ts) (landed ++ collect (landed_at g) s ts)
+run_shown g s [] law p x fetched landed h = nil_both g s fetched landed h
+run_shown g s (t ∷ ts) law p x fetched landed h =
+    by_next (istep s t) refl (step_shown g s law fetched landed h t (λ n e. invariant_step s t n p.0 law e)) x.0 x.1 (λ n sd e k. run_shown g n ts sd p.1 e (fetched ++ fetched_at g s t) (landed ++ landed_at g s t) k)
+  where
+    by_next : (o : Option Next) → istep s t ≡ o → AllShown g o (fetched ++ fetched_at g s t) (landed ++ landed_at g s t) → Exists o → AllExist (state_after s o) ts → ((n : State) → Invariant n → AllExist n ts → Shown g n (fetched ++ fetched_at g s t) (landed ++ landed_at g s t) → Shown g (final n ts) ((fetched ++ fetched_at g s t) ++ collect (fetched_at g) n ts) ((landed ++ landed_at g s t) ++ collect (landed_at g) n ts)) → Shown g (final (state_after s o) ts) (fetched ++ (fetched_at g s t ++ collect (fetched_at g) (state_after s o) ts)) (landed ++ (landed_at g s t ++ collect (landed_at g) (state_after s o) ts))
+    by_next None w q e es rest = absurd e
+    by_next (Some n) w q e es rest =
+        subst (λ y. Shown g (final n.state ts) y (landed ++ (landed_at g s t ++ collect (landed_at g) n.state ts))) (append_assoc fetched (fetched_at g s t) (collect (fetched_at g) n.state ts)) (
+        subst (λ y. Shown g (final n.state ts) ((fetched ++ fetched_at g s t) ++ collect (fetched_at g) n.state ts) y) (append_assoc landed (landed_at g s t) (collect (landed_at g) n.state ts)) (rest n.state (invariant_step s t n p.0 law w) es q)
+        )
