@@ -26,7 +26,13 @@ use Rattle.m3_base.specs.Grants.{form, new_grant, made, make_refusal, kernel_id,
 use Rattle.m3_base.specs.Steps.{Next, istep, number_of, with_packet, Starts_closing, Is_closed, Sends_close, Frees, Is_done, then_say, issue_in, issued_in, await_in, message_in, credit_in, install_in, close_in, land_in, settle_in, answer_in, answered_in, make_in, make_for, revoke_in, send_close_in, free_in, closed_in, done_in}
 use Rattle.m3_base.specs.Credit.{is_sent_by}
 use Rattle.m3_base.specs.Messages.{IsPrefix, only_of, shown_by, fetched_by, fetched_from, fetched_at, landed_at, landed_in, if_landed, verdict, collect, final, state_after}
-use Rattle.m3_base.specs.Opening.{opening}
+use Rattle.m3_base.specs.Opening.{opening, with_line, with_lines, granted, installed}
+use Rattle.m3_base.specs.Context.{new_context}
+use Rattle.m3_base.specs.declared.setup_line.SetupLine.{SetupLine}
+use Rattle.m3_base.specs.Setup.{SetupValue, IsValid}
+use Rattle.m3_base.specs.Obeys.{Obeys, AllObey}
+use Rattle.m3_base.proofs.Obeying.{valid_obeys}
+use Rattle.m3_laws.proofs.Opened.{find_inserted, free_at}
 use Rattle.m3_base.proofs.Names.{Apart}
 use Rattle.m3_base.proofs.Keyed.{find-replaced_same}
 use Rattle.m3_base.specs.State.{act_before}
@@ -560,3 +566,59 @@ run_shown g s (t ∷ ts) law p x fetched landed h =
         subst (λ y. Shown g (final n.state ts) y (landed ++ (landed_at g s t ++ collect (landed_at g) n.state ts))) (append_assoc fetched (fetched_at g s t) (collect (fetched_at g) n.state ts)) (
         subst (λ y. Shown g (final n.state ts) ((fetched ++ fetched_at g s t) ++ collect (fetched_at g) n.state ts) y) (append_assoc landed (landed_at g s t) (collect (landed_at g) n.state ts)) (rest n.state (invariant_step s t n p.0 law w) es q)
         )
+
+-- ---- opening
+
+abbrev pub NoneUnread : List Context → Type 0
+NoneUnread cs = (a ep : ℕ) (c : Context) → context_of a cs ≡ Some c → unread_of (endpoint c ep) ≡ []
+
+new_unread : (f : Fresh) → unread_of (opened f) ≡ []
+new_unread (Fresh.Send k a b d l z n) = refl
+new_unread (Fresh.Receive k slots size) = refl
+new_unread (Fresh.Memory k start extent perm) = refl
+
+installed_unread : (ep : ℕ) (f : Fresh) (a : ℕ) (cs : List Context) (o : Option Context) → context_of a cs ≡ o → NoneUnread cs → NoneUnread (installed ep f cs o)
+installed_unread ep f a cs None e n b i x w = n b i x w
+installed_unread ep f a cs (Some c) e n b i x w = by_found (found_after b x c (with_endpoint c ep (opened f)) cs (subst (λ z. context_of z cs ≡ Some c) (act_found a c cs e) e) w)
+  where
+    by_place : (get_or (set c.endpoints ep (opened f)) i Free ≡ get_or c.endpoints i Free) ⊎ ((i ≡ ep) × (get_or (set c.endpoints ep (opened f)) i Free ≡ opened f)) → unread_of (endpoint (with_endpoint c ep (opened f)) i) ≡ []
+    by_place (inl q) = ap unread_of q ∙ n a i c e
+    by_place (inr q) = ap unread_of q.1 ∙ new_unread f
+
+    by_found : ((b ≡ c.act) × (x ≡ with_endpoint c ep (opened f))) ⊎ ((same_act b c.act ≡ false) × (context_of b cs ≡ Some x)) → unread_of (endpoint x i) ≡ []
+    by_found (inl q) = ap (λ z. unread_of (endpoint z i)) q.1 ∙ by_place (at_set c.endpoints ep i (opened f))
+    by_found (inr q) = n b i x q.1
+
+granted_unread : (s : State) (line : GrantLine) (o : Option Fresh) → NoneUnread s.contexts → NoneUnread (granted s line o).contexts
+granted_unread s line None n = n
+granted_unread s line (Some f) n = installed_unread (holder_ep line) f (holder line) s.contexts (context_of (holder line) s.contexts) refl n
+
+line_unread : (s : State) (l : SetupLine) → Obeys s l → NoneUnread s.contexts → NoneUnread (with_line s l).contexts
+line_unread s (SetupLine.Act a t) o n b i x w = by_found (find_inserted b (new_context a) s.contexts o.0 x w)
+  where
+    by_found : ((b ≡ a) × (x ≡ new_context a)) ⊎ (context_of b s.contexts ≡ Some x) → unread_of (endpoint x i) ≡ []
+    by_found (inl q) = ap (λ z. unread_of (endpoint z i)) q.1 ∙ ap unread_of (free_at 16 i)
+    by_found (inr q) = n b i x q
+line_unread s (SetupLine.Grant line) o n b i x w = granted_unread s line (form (length s.grants + 1) line (parent_in s.grants (parent_of line))) n b i x w
+line_unread s (SetupLine.Quantum q) o n b i x w = n b i x w
+line_unread s (SetupLine.Files k) o n b i x w = n b i x w
+line_unread s (SetupLine.Item a c) o n b i x w = n b i x w
+line_unread s (SetupLine.AwaitItem a ep) o n b i x w = n b i x w
+line_unread s (SetupLine.Writer a m d e chunk ring bytes) o n b i x w = n b i x w
+line_unread s (SetupLine.Reader a m d chunk ring fuel) o n b i x w = n b i x w
+line_unread s (SetupLine.Boxed a logic fuel) o n b i x w = n b i x w
+
+lines_unread : (s : State) (ls : List SetupLine) → AllObey s ls → NoneUnread s.contexts → NoneUnread (with_lines s ls).contexts
+lines_unread s [] o n = n
+lines_unread s (l ∷ ls) o n = lines_unread (with_line s l) ls o.1 (line_unread s l o.0 n)
+
+pub opening_shown : (g : ℕ) (v : SetupValue) → IsValid v → Shown g (opening v.memory v.lines) [] []
+opening_shown g v ok = record {
+  at = λ a ep h c at e p. ap (sent_of g) (lines_unread (opening v.memory []) v.lines (valid_obeys v ok) (λ a ep c e. absurd (cc)) a ep c at);
+  coming = λ id x to ep f e p. refl;
+  unmade = λ e. refl;
+  prefix = ([], refl);
+}
+
+pub fetching_order : FetchingOrder
+fetching_order setup steps g v p x = (run_shown g (opening setup.memory setup.lines) steps (invariant_opening setup v) p x [] [] (opening_shown g setup v)).prefix
