@@ -1,14 +1,15 @@
 -- A grant's Close is sent.
 use Rattle.std.proofs.Common.{◌≡◌, ℕ, zero, suc, ◌+◌, ◌-◌, ◌<◌, ◌≤◌, Bool, true, false, List, length, Some, None, refl, sym, ◌∙◌, ap, subst, arith}
-use Rattle.std.specs.Prelude.{Option, if◌then◌else◌, ◌==◌, slice_get}
+use Rattle.std.specs.Prelude.{Option, if◌then◌else◌, ◌==◌, slice_get, slice_set}
 use Rattle.std.proofs.lemmas.Bool.Decides.{nat_tests}
-use Rattle.m3_base.specs.State.{Grant}
+use Rattle.m3_base.specs.State.{Standing, Grant, grant_in, is_done}
 use Rattle.m3_base.specs.Grants.{may_close}
 use Rattle.m3_base.specs.Places.{least_closing}
 use Rattle.m3_grants.specs.declared.node.Node.{Node}
 use Rattle.m3_grants.specs.declared.node.Stage.{Stage}
+use Rattle.m3_grants.specs.Tree.{is_sent_in, is_undone_in, with_sent}
 use Rattle.m3_grants.specs.Nodes.{as_grant, grants_of, grant_of, IsTree, Counts, with_node, sent_node}
-use Rattle.m3_grants.proofs.Lookups.{found, get_with_node, length_with_node, on_node, least_due}
+use Rattle.m3_grants.proofs.Lookups.{found, get_set, get_with_node, length_with_node, on_node, least_due}
 use Rattle.m3_grants.proofs.Alike.{Alike, alike_same, Keeps, keeps_same, rightful_kept, tree_alike}
 
 -- one grant changed, and the others not
@@ -53,3 +54,28 @@ tree_sent nodes table memory g t e =
     (get_changed Alike nodes sent_node (g - 1) alike_same (alike_sent (slice_get nodes (g - 1))))
     (counts_changed nodes sent_node (g - 1) counts_sent)
     (rightful_kept (grants_of nodes) (grants_of news) keeps t.rightful)
+
+-- ---- what is known of it then
+
+sent_changed : (gs : List Grant) (g : ℕ) (o : Option Grant) → slice_get gs (g - 1) ≡ o → 0 < g → may_close gs g o ≡ true → (is_sent_in (grant_in (with_sent gs g) g) ≡ true) × (is_undone_in (grant_in (with_sent gs g) g) ≡ true)
+sent_changed gs g None e some m = absurd (cc)
+sent_changed gs g (Some x) e some m =
+    let there : grant_in gs g ≡ Some x = grind (arith, nat_tests, e, some) in
+    let news : with_sent gs g ≡ slice_set gs (g - 1) (record x { close_sent = true }) = rw there refl in
+    let same : (g - 1 == (g - 1)) ≡ true = grind (arith, nat_tests) in
+    let at : slice_get (slice_set gs (g - 1) (record x { close_sent = true })) (g - 1) ≡ Some (record x { close_sent = true }) = get_set gs (g - 1) (g - 1) x (record x { close_sent = true }) e ∙ rw same refl in
+    let now : grant_in (with_sent gs g) g ≡ Some (record x { close_sent = true }) = ap (λ hs. grant_in hs g) news ∙ grind (arith, nat_tests, at, some) in
+    rw now (refl, by_standing x.standing refl m)
+  where
+    by_standing : (s : Standing) → x.standing ≡ s → may_close gs g (Some x) ≡ true → (if is_done x.standing then false else true) ≡ true
+    by_standing Standing.Live w m = absurd (grind (arith, w, m))
+    by_standing Standing.Closing w m = rw w refl
+    by_standing Standing.Closed w m = absurd (grind (arith, w, m))
+    by_standing Standing.Done w m = absurd (grind (arith, w, m))
+
+-- so it may be done next
+pub sent_there : (gs : List Grant) (g : ℕ) → least_closing gs 1 gs ≡ Some g → (is_sent_in (grant_in (with_sent gs g) g) ≡ true) × (is_undone_in (grant_in (with_sent gs g) g) ≡ true)
+sent_there gs g e =
+    let due = least_due gs 1 gs g e in
+    let some : 1 ≤ g = due.0 in
+    sent_changed gs g (slice_get gs (g - 1)) refl (omega (arith, some)) due.1

@@ -105,13 +105,7 @@ fn send_form(
     }
 }
 
-fn part_form(
-    grant: GrantId,
-    at: u32,
-    len: u32,
-    perm: Perm,
-    above: Option<Node>,
-) -> Option<Fresh>
+fn part_form(grant: GrantId, at: u32, len: u32, perm: Perm, above: Option<Node>) -> Option<Fresh>
     requires { FitsUnder (GrantLine.Part 0 0 0 at len perm) (grant_of above) }
     ensures { (act ep of : ℕ) → result ≡ form grant (GrantLine.Part act ep of at len perm) (grant_of above) }
 {

@@ -4,4 +4,7 @@
 mod form;
 pub mod grants;
 mod node;
+mod nodes;
 pub mod refusal;
+#[cfg(test)]
+mod tests;

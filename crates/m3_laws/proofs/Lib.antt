@@ -40,3 +40,5 @@ pub mod Alone
 pub mod Order
 pub mod Past
 pub mod Ordered
+pub mod Shown
+pub mod Fetched

@@ -5,7 +5,7 @@ use Rattle.m3_base.specs.State.{State}
 use Rattle.m3_base.specs.Opening.{opening}
 use Rattle.m3_base.specs.Setup.{SetupValue, IsValid}
 use Rattle.m3_base.specs.Steps.{Next, istep}
-use Rattle.m3_base.specs.Messages.{final, state_after, collect, issued_at, landed_at, refused_at, flying_of, names_of, kept}
+use Rattle.m3_base.specs.Messages.{final, state_after, collect, issued_at, landed_at, refused_at, fetched_at, flying_of, names_of, kept, IsPrefix}
 use Rattle.m3_laws.specs.Laws.{AllFit}
 
 abbrev pub Exists : Option Next → Type 0
@@ -28,3 +28,15 @@ LandingOrder =
     → AllFit steps
     → AllExist (opening setup.memory setup.lines) steps
     → LandsInOrder g (opening setup.memory setup.lines) steps
+
+-- the messages of g that were fetched are the first of those that landed
+abbrev pub FetchesInOrder : ℕ → State → List Step → Type 0
+FetchesInOrder g s ts = IsPrefix (collect (fetched_at g) s ts) (collect (landed_at g) s ts)
+
+abbrev pub FetchingOrder : Type 0
+FetchingOrder =
+    (setup : SetupValue) (steps : List Step) (g : ℕ)
+    → IsValid setup
+    → AllFit steps
+    → AllExist (opening setup.memory setup.lines) steps
+    → FetchesInOrder g (opening setup.memory setup.lines) steps

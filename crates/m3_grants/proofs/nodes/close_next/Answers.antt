@@ -3,7 +3,7 @@ use Rattle.std.proofs.lemmas.Option.{slice_get_read}
 use Rattle.m3_base.specs.State.{parent_of}
 use Rattle.m3_grants.specs.Nodes.{is_reached, is_live_stage}
 use Rattle.m3_grants.proofs.Revoking.{nothing_closes}
-use Rattle.m3_grants.proofs.grants.close_next.Goals as goal
+use Rattle.m3_grants.proofs.nodes.close_next.Goals as goal
 
 pub returns-else-closes-clause-items : goal.returns-else-closes-clause-items
 returns-else-closes-clause-items c =

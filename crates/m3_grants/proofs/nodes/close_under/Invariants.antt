@@ -1,6 +1,6 @@
 use Rattle.std.proofs.Common.{◌≡◌, length}
 use Rattle.m3_grants.proofs.Revoking.{Reached}
-use Rattle.m3_grants.proofs.grants.close_under.Given as goal
+use Rattle.m3_grants.proofs.nodes.close_under.Given as goal
 
 abbrev pub invariant-loop-i : goal.invariant-loop-i
 invariant-loop-i l = record {

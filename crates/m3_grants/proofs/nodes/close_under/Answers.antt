@@ -1,6 +1,6 @@
 use Rattle.std.proofs.Common.{refl, arith, ◌≡◌, ◌∙◌, length, ◌≤◌}
 use Rattle.m3_grants.proofs.Revoking.{reached_none, reached_next, reached_all}
-use Rattle.m3_grants.proofs.grants.close_under.Goals as goal
+use Rattle.m3_grants.proofs.nodes.close_under.Goals as goal
 
 pub loop-i-init : goal.loop-i-init
 loop-i-init c = record { reached = reached_none c.args.g c.args.nodes.now.items c.args.nodes.now.items refl; len = refl }

@@ -1,0 +1,5 @@
+use Rattle.m3_laws.proofs.Fetched.{fetching_order}
+use Rattle.m3_laws.proofs.fetches_keep_order.Goals as goal
+
+pub returns : goal.returns
+returns c = fetching_order
