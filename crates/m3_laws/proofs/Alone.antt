@@ -1,7 +1,6 @@
 -- At most one message of a send grant flies at a time.
-use Rattle.std.proofs.Common.{◌≡◌, ◌≢◌, ℕ, zero, suc, ◌+◌, ◌<◌, ◌≤◌, Bool, true, false, List, [], ◌∷◌, ◌++◌, length, get_or, set, Some, None, refl, sym, subst, ◌∙◌, ap, arith, inl, inr}
-use Rattle.std.specs.Prelude.{Option, if◌then◌else◌, ◌==◌, not, ◌&&◌, ◌||◌, ◌⊎◌}
-use Rattle.std.specs.List.{list_any}
+use Rattle.std.proofs.Common.{◌≡◌, ℕ, ◌≤◌, Bool, true, false, List, [], ◌∷◌, ◌++◌, length, Some, None, refl, sym, subst, ◌∙◌, ap, arith, inl, inr}
+use Rattle.std.specs.Prelude.{Option, if◌then◌else◌, ◌==◌, ◌⊎◌}
 use Rattle.std.proofs.lemmas.Bool.Decides.{nat_tests}
 use Rattle.m3_base.specs.declared.ids.FlightId.{FlightId}
 use Rattle.m3_base.specs.declared.message.Message.{Message}
@@ -11,12 +10,12 @@ use Rattle.m3_base.specs.Context.{Flying, Context}
 use Rattle.m3_base.specs.Land.{flying_at, message_id}
 use Rattle.m3_base.specs.State.{State, context_of}
 use Rattle.m3_base.specs.Credit.{is_sent_by, gives_back_by, gives_back_in}
-use Rattle.m3_base.specs.Messages.{only_of, sent_in, flying_of}
+use Rattle.m3_base.specs.Messages.{sent_in, flying_of}
 use Rattle.m3_base.proofs.Names.{Apart, Distinct, same_name-is, same_name-itself}
 use Rattle.m3_base.specs.State.{Grant, holder}
 use Rattle.m3_laws.specs.Invariant.{Invariant}
 use Rattle.m3_laws.specs.Held.{HeldThere}
-use Rattle.m3_laws.proofs.Sound.{act_found, name_found}
+use Rattle.m3_laws.proofs.Sound.{name_found}
 use Rattle.m3_laws.proofs.Used.{message_held}
 
 pub sent_message : (g : ℕ) (p : Packet) (m : Message) → sent_in g p ≡ m ∷ [] → (name_of p ≡ message_id m) × (is_sent_by g m ≡ true)

@@ -1,24 +1,24 @@
 -- An answer that comes home moves credits, and makes or loses none.
-use Rattle.std.proofs.Common.{◌≡◌, ◌≢◌, ℕ, zero, suc, ◌+◌, ◌-◌, ◌<◌, ◌≤◌, Bool, true, false, cond, List, [], ◌∷◌, ◌++◌, length, get_or, set, Some, None, refl, sym, subst, ◌∙◌, ap, arith}
-use Rattle.std.specs.Prelude.{Option, if◌then◌else◌, ◌==◌, nat_lt, not, ◌&&◌, ◌||◌}
+use Rattle.std.proofs.Common.{◌≡◌, ◌≢◌, ℕ, ◌+◌, true, false, [], ◌∷◌, Some, None, refl, sym, subst, ◌∙◌, ap, arith}
+use Rattle.std.specs.Prelude.{Option, ◌==◌, ◌&&◌}
 use Rattle.std.proofs.lemmas.Bool.Decides.{nat_tests}
 use Rattle.m3_base.specs.declared.ids.FlightId.{FlightId}
 use Rattle.m3_base.specs.declared.packet.Packet.{Packet}
 use Rattle.m3_base.specs.declared.command.Answer.{Answer}
-use Rattle.m3_base.specs.Sums.{total, one, how_many}
-use Rattle.m3_base.specs.Flight.{name_of, same_name, name_before, flight, new_flight, change_flight, end_flight}
-use Rattle.m3_base.specs.Context.{Kind, Sending, Replying, Reading, Writing, Flying, SendRecord, Fetched, ReceiveRecord, Endpoint, Free, Sends, Receives, Reaches, Context, endpoint, with_endpoint}
-use Rattle.m3_base.specs.Receive.{fetched_at, freed, marking}
-use Rattle.m3_base.specs.Land.{one_more, settled, answered, flying_at, without_flying, has_send, with_credit}
+use Rattle.m3_base.specs.Sums.{one}
+use Rattle.m3_base.specs.Flight.{name_of, same_name, name_before, flight, end_flight}
+use Rattle.m3_base.specs.Context.{Kind, Sending, Replying, Reading, Writing, Flying, Fetched, Endpoint, Free, Sends, Receives, Reaches, Context, endpoint}
+use Rattle.m3_base.specs.Receive.{fetched_at, marking}
+use Rattle.m3_base.specs.Land.{settled, answered, flying_at, without_flying, has_send, with_credit}
 use Rattle.m3_base.specs.State.{State, context_of, put_context, act_of, same_act, act_before}
-use Rattle.m3_base.specs.Credit.{gives_back, gives_back_by, gives_back_in, is_refusal, carries, waiting, credits}
+use Rattle.m3_base.specs.Credit.{gives_back, gives_back_by, is_refusal, carries, waiting, credits}
 use Rattle.m3_base.proofs.Keyed.{total-replaced, total-without, how_many-without}
-use Rattle.m3_laws.proofs.Weights.{weight, context_weight, weight-one_more, owed-without_token, owed-with_mark, weight-credited}
+use Rattle.m3_laws.proofs.Weights.{weight, context_weight, owed-without_token, owed-with_mark, weight-credited}
 use Rattle.m3_laws.proofs.Issuing.{weight-with_endpoint}
-use Rattle.m3_laws.proofs.Landing.{EachAlike, SameBack, back_by_alike, alike-credited, credits_are, carries-put, how_many-agree}
+use Rattle.m3_laws.proofs.Landing.{SameBack, back_by_alike, alike-credited, credits_are, carries-put, how_many-agree}
 use Rattle.m3_laws.proofs.Moving.{Moved, credits_ended}
-use Rattle.m3_base.proofs.Names.{Apart, Distinct}
-use Rattle.m3_laws.specs.Stands.{IsBeingRepliedTo, StandsAt, StandsBy}
+use Rattle.m3_base.proofs.Names.{Distinct}
+use Rattle.m3_laws.specs.Stands.{IsBeingRepliedTo, StandsAt}
 
 -- what an answer gives back is what its endpoint gains
 pub weight-settled : (g : ℕ) (k : Kind) (t : ℕ) (answer : Answer) (e : Endpoint) → StandsAt k t e → weight g (settled k t answer e) ≡ weight g e + one (is_refusal answer && gives_back g k t e)

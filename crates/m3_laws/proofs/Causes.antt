@@ -1,6 +1,6 @@
 -- Why sends are refused, at issue and where they land.
-use Rattle.std.proofs.Common.{◌≡◌, ℕ, ◌+◌, ◌<◌, ◌≤◌, Bool, true, false, List, [], ◌∷◌, length, Some, None, refl, sym, subst, ◌∙◌, ap, arith}
-use Rattle.std.specs.Prelude.{Option, if◌then◌else◌, ◌==◌, ◌&&◌, ◌||◌, not, nat_lt, nat_le}
+use Rattle.std.proofs.Common.{◌≡◌, ℕ, ◌+◌, ◌≤◌, Bool, true, false, List, [], ◌∷◌, length, Some, None, refl, sym, subst, ◌∙◌, ap, arith}
+use Rattle.std.specs.Prelude.{Option, if◌then◌else◌, ◌==◌, nat_lt}
 use Rattle.std.specs.List.{list_any}
 use Rattle.std.proofs.lemmas.Bool.Decides.{nat_tests}
 use Rattle.m3_base.specs.declared.ids.FlightId.{FlightId}
@@ -12,10 +12,9 @@ use Rattle.m3_base.specs.declared.command.Refusal.{Refusal}
 use Rattle.m3_base.specs.declared.command.Command.{Command}
 use Rattle.m3_base.specs.declared.command.Reply.{Reply}
 use Rattle.m3_base.specs.declared.order.GrantLine.{GrantLine}
-use Rattle.m3_base.specs.declared.step.Step.{Step}
-use Rattle.m3_base.specs.Sums.{total, one, how_many}
-use Rattle.m3_base.specs.Flight.{flight, name_of, same_name}
-use Rattle.m3_base.specs.Context.{SendRecord, ReceiveRecord, Endpoint, Free, Sends, Receives, Reaches, Context, endpoint}
+use Rattle.m3_base.specs.Sums.{one, how_many}
+use Rattle.m3_base.specs.Flight.{flight}
+use Rattle.m3_base.specs.Context.{SendRecord, Endpoint, Free, Sends, Receives, Reaches, Context, endpoint}
 use Rattle.m3_base.specs.Receive.{is_full}
 use Rattle.m3_base.specs.Context.{Sending, with_endpoint}
 use Rattle.m3_base.specs.Issue.{Told, Issued, send, send_refusal, send_packet, next_id, launched, less_one, unless, issue, is_busy}
@@ -23,17 +22,17 @@ use Rattle.m3_base.specs.State.{put_context}
 use Rattle.m3_base.specs.Opening.{opening}
 use Rattle.m3_base.specs.Messages.{final}
 use Rattle.m3_laws.proofs.Issuing.{came_through}
-use Rattle.m3_base.specs.Land.{land_refusal, is_closing, has_closing}
-use Rattle.m3_base.specs.State.{Grant, State, context_of, act_of, same_act, grant_in, parent_in, parent_of, holder, holder_ep, is_done}
+use Rattle.m3_base.specs.Land.{land_refusal, has_closing}
+use Rattle.m3_base.specs.State.{Grant, State, context_of, act_of, same_act, grant_in, parent_in, parent_of, holder, holder_ep}
 use Rattle.m3_base.specs.Grants.{form, send_form, part_form}
-use Rattle.m3_base.specs.Steps.{Next, istep, At_issue, issue_in, issued_in, with_packet, number_of}
-use Rattle.m3_laws.specs.Laws.{is_open, installs, closes, SendCauses, IsSendCause, LandCauses, LandCausesAt, land_cause, has_no_slot}
-use Rattle.m3_laws.specs.Lawful.{IsLawful, GrantLawful, KeepsOpen, is_ready, open_at, sent_at, is_at, ChildOf, HeldAt, FormLawful, form_of}
-use Rattle.m3_laws.specs.Proper.{is_sent_by_form, is_sent_as, IsProper}
+use Rattle.m3_base.specs.Steps.{At_issue, issue_in, issued_in, with_packet, number_of}
+use Rattle.m3_laws.specs.Laws.{installs, SendCauses, IsSendCause, LandCauses, land_cause, has_no_slot}
+use Rattle.m3_laws.specs.Lawful.{GrantLawful, KeepsOpen, is_ready, open_at, sent_at, is_at, ChildOf, HeldAt, FormLawful, form_of}
+use Rattle.m3_laws.specs.Proper.{is_sent_by_form, is_sent_as}
 use Rattle.m3_laws.specs.Invariant.{Invariant}
 use Rattle.m3_laws.specs.Held.{HeldThere}
-use Rattle.m3_laws.proofs.Counts.{some_at, some_found, one_found}
-use Rattle.m3_laws.proofs.Places.{record_open, open_undone}
+use Rattle.m3_laws.proofs.Counts.{some_at, some_found}
+use Rattle.m3_laws.proofs.Places.{open_undone}
 use Rattle.m3_laws.proofs.Placing.{form_number}
 use Rattle.m3_laws.proofs.Fitting.{record_there}
 use Rattle.m3_laws.proofs.Used.{message_held}

@@ -1,22 +1,21 @@
 -- What an issued command leaves of a context: its records are safe, and its flight is the one that its command waits for.
-use Rattle.std.proofs.Common.{◌≡◌, ◌≢◌, ℕ, zero, suc, ◌+◌, ◌-◌, ◌<◌, ◌≤◌, Bool, true, false, cond, List, [], ◌∷◌, ◌++◌, length, get_or, set, Some, None, refl, sym, subst, ◌∙◌, ap, arith, replicate}
-use Rattle.std.specs.Prelude.{Option, if◌then◌else◌, ◌==◌, nat_lt, not, ◌&&◌, ◌||◌}
+use Rattle.std.proofs.Common.{◌≡◌, ◌≢◌, ℕ, zero, suc, ◌+◌, Bool, true, false, List, [], ◌∷◌, ◌++◌, length, get_or, set, Some, None, refl, sym, subst, ◌∙◌, ap, arith, replicate}
+use Rattle.std.specs.Prelude.{Option, ◌==◌}
 use Rattle.std.proofs.lemmas.Bool.Decides.{nat_tests}
 use Rattle.std.proofs.lemmas.List.{get_or-set_same}
-use Rattle.m3_base.specs.declared.ids.FlightId.{FlightId}
 use Rattle.m3_base.specs.declared.message.Message.{Message}
 use Rattle.m3_base.specs.declared.packet.Packet.{Packet}
 use Rattle.m3_base.specs.declared.command.Refusal.{Refusal}
 use Rattle.m3_base.specs.declared.command.Command.{Command}
 use Rattle.m3_base.specs.Flight.{name_of}
 use Rattle.m3_base.specs.Context.{Kind, Sending, Replying, Reading, Writing, Flying, SendRecord, Fetched, ReceiveRecord, MemoryRecord, Endpoint, Free, Sends, Receives, Reaches, Context, endpoint, with_endpoint}
-use Rattle.m3_base.specs.Receive.{with_unread, with_fetched, fetched_at, unmarked, without_token, with_mark, freed, marking}
+use Rattle.m3_base.specs.Receive.{with_fetched, fetched_at, unmarked, with_mark, freed, marking}
 use Rattle.m3_base.specs.Issue.{less_one, send, send_refusal, reply, reply_to, reply_refusal, fetch, acknowledge, read, write, unless, first_of, launched, next_id, Issued, issue, Told, send_packet, fetch_from, acknowledged, acknowledge_at, access, access_refusal, may_read, may_write, is_busy}
 use Rattle.m3_base.specs.Land.{flying_at}
-use Rattle.m3_base.specs.Credit.{gives_back, gives_back_by}
+use Rattle.m3_base.specs.Credit.{gives_back_by}
 use Rattle.m3_laws.proofs.Issuing.{in_range, some_is, came_through}
 use Rattle.m3_laws.proofs.Standing.{Safe, safe, safe-sends, safe-receives, fetched_at-push, fetched_at-without, fetched_at-mark, apart_tokens}
-use Rattle.m3_laws.specs.Stands.{IsBeingRepliedTo, StandsAt, StandsBy}
+use Rattle.m3_laws.specs.Stands.{StandsAt, StandsBy}
 
 abbrev pub EachSafe : List Endpoint → List Endpoint → Type 0
 EachSafe es ds = (i : ℕ) → Safe (get_or es i Free) (get_or ds i Free)

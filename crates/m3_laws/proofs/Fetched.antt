@@ -1,6 +1,6 @@
 -- The messages of a grant that were fetched are the first of those that landed.
-use Rattle.std.proofs.Common.{◌≡◌, ◌≢◌, ℕ, zero, suc, ◌+◌, ◌-◌, ◌<◌, ◌≤◌, Bool, true, false, List, [], ◌∷◌, ◌++◌, length, get_or, set, get_or-set_same, Some, None, refl, sym, subst, ◌∙◌, ap, arith, inl, inr, append_assoc}
-use Rattle.std.specs.Prelude.{Option, if◌then◌else◌, ◌==◌, not, ◌&&◌, ◌||◌, ◌⊎◌, slice_get}
+use Rattle.std.proofs.Common.{◌≡◌, ℕ, ◌+◌, ◌-◌, ◌<◌, Bool, true, false, List, [], ◌∷◌, ◌++◌, length, get_or, set, get_or-set_same, Some, None, refl, sym, subst, ◌∙◌, ap, arith, inl, inr, append_assoc}
+use Rattle.std.specs.Prelude.{Option, if◌then◌else◌, ◌==◌, not, ◌&&◌, ◌⊎◌, slice_get}
 use Rattle.std.specs.Option.{option_map}
 use Rattle.std.proofs.lemmas.Bool.Decides.{nat_tests}
 use Rattle.std.proofs.lemmas.List.{append-nil}
@@ -10,22 +10,21 @@ use Rattle.m3_base.specs.declared.packet.Packet.{Packet}
 use Rattle.m3_base.specs.declared.packet.Fresh.{Fresh}
 use Rattle.m3_base.specs.declared.order.GrantLine.{GrantLine}
 use Rattle.m3_base.specs.declared.command.Refusal.{Refusal}
-use Rattle.m3_base.specs.declared.command.Reply.{Reply}
 use Rattle.m3_base.specs.declared.command.Answer.{Answer}
 use Rattle.m3_base.specs.declared.command.Command.{Command}
 use Rattle.m3_base.specs.declared.event.No.{No}
 use Rattle.m3_base.specs.declared.step.Step.{Step}
-use Rattle.m3_base.specs.Sums.{total, one, how_many}
+use Rattle.m3_base.specs.Sums.{how_many}
 use Rattle.m3_base.specs.Flight.{flight, name_of, same_name, new_flight, change_flight, end_flight}
-use Rattle.m3_base.specs.Context.{Kind, Sending, Replying, Reading, Writing, Flying, ReceiveRecord, Endpoint, Free, Sends, Receives, Reaches, Context, endpoint, with_endpoint, opened}
-use Rattle.m3_base.specs.Receive.{with_fetched, with_unread, freed, marking}
-use Rattle.m3_base.specs.Issue.{Told, Issued, issue}
+use Rattle.m3_base.specs.Context.{Kind, Sending, Replying, Flying, ReceiveRecord, Endpoint, Free, Sends, Receives, Reaches, Context, endpoint, with_endpoint, opened}
+use Rattle.m3_base.specs.Receive.{with_fetched, with_unread}
+use Rattle.m3_base.specs.Issue.{Issued, issue}
 use Rattle.m3_base.specs.Land.{grant_of, joined, taken, with_credit, credited, land_by, land_refusal, landed_answer, message_id, answered, settled, flying_at, closed_at, has_live, has_closing, flies_at, bytes_at, written_at}
 use Rattle.m3_base.specs.State.{Grant, State, context_of, put_context, act_of, same_act, grant_in, parent_of, parent_in, undone, holder, holder_ep}
 use Rattle.m3_base.specs.Grants.{form, new_grant, made, make_refusal, kernel_id, revoked, rooted, closing_where, marks_under, or_false, to_closing, revoke_refusal, may_close, close_sent, change_grant, is_closed_grant}
 use Rattle.m3_base.specs.Steps.{Next, istep, number_of, with_packet, Starts_closing, Is_closed, Sends_close, Frees, Is_done, then_say, issue_in, issued_in, await_in, message_in, credit_in, install_in, close_in, land_in, settle_in, answer_in, answered_in, make_in, make_for, revoke_in, send_close_in, free_in, closed_in, done_in}
 use Rattle.m3_base.specs.Credit.{is_sent_by}
-use Rattle.m3_base.specs.Messages.{IsPrefix, only_of, shown_by, fetched_by, fetched_from, fetched_at, landed_at, landed_in, if_landed, verdict, collect, final, state_after}
+use Rattle.m3_base.specs.Messages.{only_of, shown_by, fetched_by, fetched_from, fetched_at, landed_at, landed_in, if_landed, verdict, collect, final, state_after}
 use Rattle.m3_base.specs.Opening.{opening, with_line, with_lines, granted, installed}
 use Rattle.m3_base.specs.Context.{new_context}
 use Rattle.m3_base.specs.declared.setup_line.SetupLine.{SetupLine}
@@ -36,7 +35,7 @@ use Rattle.m3_laws.proofs.Opened.{find_inserted, free_at}
 use Rattle.m3_base.proofs.Names.{Apart}
 use Rattle.m3_base.proofs.Keyed.{find-replaced_same}
 use Rattle.m3_base.specs.State.{act_before}
-use Rattle.m3_laws.specs.Laws.{parent_at, installs, AllFit, Fits}
+use Rattle.m3_laws.specs.Laws.{parent_at, installs, AllFit}
 use Rattle.m3_laws.specs.Order.{Exists, AllExist, FetchingOrder}
 use Rattle.m3_laws.specs.Lawful.{QueueLawful, SentTo, AllSentTo, ChildOf, IsAfter, open_at, is_at}
 use Rattle.m3_laws.specs.Quiet.{IsData}
@@ -46,18 +45,16 @@ use Rattle.m3_laws.proofs.Answering.{after_ending}
 use Rattle.m3_laws.proofs.Issuing.{in_range}
 use Rattle.m3_laws.proofs.Commands.{Does, NewPacket, issue_does}
 use Rattle.m3_laws.proofs.Sound.{act_found, name_found, found_after}
-use Rattle.m3_laws.proofs.Kept.{found_ended, after_serving}
+use Rattle.m3_laws.proofs.Kept.{found_ended}
 use Rattle.m3_laws.proofs.Counts.{at_set, some_at, some_found, one_found}
-use Rattle.m3_laws.proofs.Places.{one_less, opened_form}
+use Rattle.m3_laws.proofs.Places.{one_less}
 use Rattle.m3_laws.proofs.Placing.{found_new, form_number, to_closed, to_done, to_sent, to_root}
 use Rattle.m3_laws.proofs.Faces.{found_changed}
 use Rattle.m3_laws.proofs.Issued.{data_new}
 use Rattle.m3_laws.proofs.Tree.{Changes, at_one, grant_added, grant_past}
 use Rattle.m3_laws.proofs.Ordering.{closing_changes, one_changes}
-use Rattle.m3_laws.proofs.ProperSteps.{grant_of_form}
 use Rattle.m3_laws.proofs.Invariants.{invariant_opening, invariant_step}
-use Rattle.m3_laws.proofs.Quiets.{nothing_flies}
-use Rattle.m3_laws.proofs.Shown.{sent_of, unread_of, IsParent, Shown, Before, AllBefore, before_same, Alike, shown_stays, AllSame, same_itself, same_set, same_then, before_put, same_credited, Fetches, Leaves, issue_leaves, one_place, sent_of-push}
+use Rattle.m3_laws.proofs.Shown.{sent_of, unread_of, IsParent, Shown, before_same, shown_stays, AllSame, same_itself, same_set, same_then, before_put, same_credited, Fetches, Leaves, issue_leaves, one_place, sent_of-push}
 
 -- ---- where the parent's record is known
 
@@ -260,9 +257,9 @@ module _ (g : ℕ) (s : State) (law : Invariant s) (fetched landed : List Messag
         let place : endpoint (taken ep m x) ep ≡ Receives (with_unread r m) = ap (λ es. get_or es ep Free) ends ∙ get_or-set_same x.endpoints ep (Receives (with_unread r m)) Free inside in
         let before : fetched ++ sent_of g r.unread ≡ landed = ap (λ y. fetched ++ sent_of g (unread_of y)) (sym here) ∙ old.at to ep r.grant x at (ap grant_of here) p in
         let more : fetched ++ sent_of g (r.unread ++ m ∷ []) ≡ landed ++ m ∷ [] =
-          ap (λ y. fetched ++ y) (sent_of-push g r.unread m)
-          ∙ (ap (λ b. fetched ++ (sent_of g r.unread ++ (if b then m ∷ [] else []))) sent
-          ∙ (sym (append_assoc fetched (sent_of g r.unread) (m ∷ [])) ∙ ap (λ y. y ++ m ∷ []) before)) in
+        ap (λ y. fetched ++ y) (sent_of-push g r.unread m)
+        ∙ (ap (λ b. fetched ++ (sent_of g r.unread ++ (if b then m ∷ [] else []))) sent
+        ∙ (sym (append_assoc fetched (sent_of g r.unread) (m ∷ [])) ∙ ap (λ y. y ++ m ∷ []) before)) in
         shown_at g (after_landing s (land_by ep m x None)) after (taken ep m x).act ep r.grant (taken ep m x) (Receives (with_unread r m)) (find-replaced_same act_of same_act act_before (taken ep m x) x s.contexts (same_act-itself (taken ep m x).act) there_taken) place refl p fetched (landed ++ m ∷ []) more
       where
         clash : (r : ReceiveRecord) → Receives r ≡ Free → ⊥

@@ -1,32 +1,30 @@
 -- What the invariant gives: each flight fits where it lands, names are free, and records and Closes have open grants.
-use Rattle.std.proofs.Common.{◌≡◌, ℕ, zero, suc, ◌+◌, ◌<◌, ◌≤◌, Bool, true, false, List, [], ◌∷◌, length, get_or, Some, None, refl, sym, subst, ◌∙◌, ap, arith, inl, inr}
-use Rattle.std.specs.Prelude.{Option, if◌then◌else◌, ◌==◌, ◌⊎◌, ◌&&◌, ◌||◌, not, nat_lt, nat_le, is_some}
+use Rattle.std.proofs.Common.{◌≡◌, ℕ, zero, suc, ◌+◌, ◌<◌, ◌≤◌, Bool, true, false, List, [], ◌∷◌, length, get_or, Some, None, refl, sym, subst, ◌∙◌, ap, arith}
+use Rattle.std.specs.Prelude.{Option, ◌==◌, nat_lt}
 use Rattle.std.proofs.lemmas.Bool.Decides.{nat_tests}
 use Rattle.m3_base.specs.declared.ids.FlightId.{FlightId}
-use Rattle.m3_base.specs.declared.message.Message.{Message}
 use Rattle.m3_base.specs.declared.packet.Packet.{Packet}
 use Rattle.m3_base.specs.declared.packet.Perm.{Perm}
 use Rattle.m3_base.specs.declared.packet.Fresh.{Fresh}
 use Rattle.m3_base.specs.declared.command.Answer.{Answer}
 use Rattle.m3_base.specs.declared.command.Refusal.{Refusal}
 use Rattle.m3_base.specs.Sums.{total, one, how_many}
-use Rattle.m3_base.specs.Flight.{kernel, flight, same_name, name_of}
-use Rattle.m3_base.specs.Context.{Kind, Sending, Replying, Reading, Writing, Flying, SendRecord, Endpoint, Free, Sends, Receives, Reaches, Context, endpoint}
+use Rattle.m3_base.specs.Flight.{flight, same_name, name_of}
+use Rattle.m3_base.specs.Context.{Kind, Sending, Flying, SendRecord, Endpoint, Free, Sends, Receives, Reaches, Context, endpoint}
 use Rattle.m3_base.specs.Issue.{next_id}
-use Rattle.m3_base.specs.Land.{grant_of, is_grant, is_closing, has_live, has_closing, flying_at}
+use Rattle.m3_base.specs.Land.{grant_of, is_closing, has_live, has_closing, flying_at}
 use Rattle.m3_base.specs.State.{Grant, State, context_of, act_of, same_act, grant_in, holder, holder_ep}
 use Rattle.m3_base.specs.Grants.{kernel_id}
 use Rattle.m3_base.specs.Steps.{number_of}
-use Rattle.m3_base.specs.Credit.{credits, carries, waiting, held_at}
+use Rattle.m3_base.specs.Credit.{credits, carries, held_at}
 use Rattle.m3_base.specs.Places.{target}
-use Rattle.m3_base.specs.Fits.{fits, fits_answer, is_message, is_returned, send_of, takes_credit, takes_back, has_room, has_room_if, is_free, is_answer_for}
-use Rattle.m3_base.proofs.Names.{Apart, Distinct}
-use Rattle.m3_laws.specs.Laws.{is_open, limit_of, installs, closes}
-use Rattle.m3_laws.specs.Lawful.{IsLawful, Placed, HeldAt, Held, FormLawful, form_of, open_at, sent_at, is_at, closings, presence, CreditsLawful}
-use Rattle.m3_laws.specs.Proper.{Use, use_of, use_by, use_in, gets, is_held_at, ProperPacket, IsProper}
+use Rattle.m3_base.specs.Fits.{fits, fits_answer, send_of, takes_credit, takes_back, has_room_if, is_answer_for}
+use Rattle.m3_laws.specs.Laws.{limit_of, installs, closes}
+use Rattle.m3_laws.specs.Lawful.{HeldAt, FormLawful, form_of, open_at, sent_at, is_at, CreditsLawful}
+use Rattle.m3_laws.specs.Proper.{use_by, use_in, gets, is_held_at}
 use Rattle.m3_laws.specs.Invariant.{Invariant}
 use Rattle.m3_laws.specs.Held.{HeldThere}
-use Rattle.m3_laws.proofs.Sound.{act_found, name_found}
+use Rattle.m3_laws.proofs.Sound.{name_found}
 use Rattle.m3_laws.proofs.Counts.{some_at, some_found, one_found}
 use Rattle.m3_laws.proofs.Places.{record_open, closing_sent, install_free, is_one, one_less}
 use Rattle.m3_laws.proofs.Homing.{Each, each_found, found_lone, form_at}

@@ -1,18 +1,16 @@
 -- Where the credits of a queued message go home to.
-use Rattle.std.proofs.Common.{◌≡◌, ◌≢◌, ℕ, zero, suc, ◌+◌, ◌-◌, ◌<◌, ◌≤◌, Bool, true, false, cond, List, [], ◌∷◌, ◌++◌, length, get_or, set, Some, None, refl, sym, subst, ◌∙◌, ap, arith, replicate, inl, inr, length-append}
-use Rattle.std.specs.Prelude.{Option, if◌then◌else◌, ◌==◌, nat_lt, not, ◌&&◌, ◌||◌, ◌⊎◌}
+use Rattle.std.proofs.Common.{◌≡◌, ℕ, zero, suc, ◌<◌, ◌≤◌, Bool, true, false, List, [], ◌∷◌, ◌++◌, length, get_or, set, Some, None, refl, sym, subst, ◌∙◌, ap, arith, inl, inr, length-append}
+use Rattle.std.specs.Prelude.{Option, if◌then◌else◌, ◌==◌, ◌⊎◌}
 use Rattle.std.specs.List.{list_any}
 use Rattle.std.proofs.lemmas.Bool.Decides.{nat_tests}
-use Rattle.m3_base.specs.declared.ids.FlightId.{FlightId}
 use Rattle.m3_base.specs.declared.message.Message.{Message}
 use Rattle.m3_base.specs.declared.packet.Packet.{Packet}
 use Rattle.m3_base.specs.declared.command.Refusal.{Refusal}
 use Rattle.m3_base.specs.declared.command.Command.{Command}
-use Rattle.m3_base.specs.Context.{Kind, Sending, Replying, Reading, Writing, Flying, SendRecord, Fetched, ReceiveRecord, MemoryRecord, Endpoint, Free, Sends, Receives, Reaches, Context, endpoint, with_endpoint}
-use Rattle.m3_base.specs.Receive.{with_unread, with_fetched, fetched_at, unmarked, without_token, with_mark, freed, marking}
+use Rattle.m3_base.specs.Context.{Kind, Sending, Reading, Writing, Flying, SendRecord, Fetched, ReceiveRecord, Endpoint, Free, Sends, Receives, Reaches, Context, endpoint, with_endpoint}
+use Rattle.m3_base.specs.Receive.{with_fetched, fetched_at, unmarked, without_token, with_mark, freed, marking}
 use Rattle.m3_base.specs.Issue.{less_one, send, send_refusal, reply, reply_to, reply_refusal, fetch, fetch_from, acknowledge, acknowledge_at, acknowledged, read, write, access, access_refusal, may_read, may_write, unless, first_of, launched, next_id, Issued, issue, is_busy, Told, send_packet}
 use Rattle.m3_base.specs.Land.{sends_by, has_send, flying_at}
-use Rattle.m3_base.specs.State.{context_of}
 pub use Rattle.m3_laws.specs.Plain.{has_home, IsHome}
 use Rattle.m3_base.specs.Credit.{gives_back}
 use Rattle.m3_laws.proofs.Issuing.{in_range, some_is, came_through}

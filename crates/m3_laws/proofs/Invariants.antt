@@ -1,5 +1,5 @@
 -- The invariant holds at each opening of a valid setup, and each step keeps it.
-use Rattle.std.proofs.Common.{◌≡◌, ℕ, List, [], ◌∷◌, Some, None, refl, sym, subst, ◌∙◌, ap}
+use Rattle.std.proofs.Common.{◌≡◌, List, [], ◌∷◌, Some, None, refl, subst}
 use Rattle.std.specs.Prelude.{Option}
 use Rattle.m3_base.specs.declared.step.Step.{Step}
 use Rattle.m3_base.specs.State.{State}
@@ -10,7 +10,6 @@ use Rattle.m3_base.specs.Messages.{state_after, final}
 use Rattle.m3_base.proofs.Obeying.{valid_obeys}
 use Rattle.m3_laws.specs.Laws.{Fits, AllFit}
 use Rattle.m3_laws.specs.Invariant.{Invariant}
-use Rattle.m3_laws.specs.Lawful.{IsLawful}
 use Rattle.m3_laws.proofs.Runs.{AllLawful, step_lawful}
 use Rattle.m3_laws.proofs.Opened.{always_lawful}
 use Rattle.m3_laws.proofs.ProperRuns.{AllProper, step_proper, valid_proper}

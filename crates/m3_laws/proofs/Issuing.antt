@@ -1,17 +1,13 @@
 -- A command that is issued moves credits, and makes or loses none.
-use Rattle.std.proofs.Common.{◌≡◌, ◌≢◌, ℕ, zero, suc, ◌+◌, ◌-◌, ◌<◌, ◌≤◌, Bool, true, false, cond, List, [], ◌∷◌, ◌++◌, length, get_or, set, Some, None, refl, sym, subst, ◌∙◌, ap, arith}
-use Rattle.std.specs.Prelude.{Option, if◌then◌else◌, ◌==◌, nat_lt, not, ◌&&◌, ◌||◌}
+use Rattle.std.proofs.Common.{◌≡◌, ◌≢◌, ℕ, zero, suc, ◌+◌, ◌<◌, Bool, true, false, List, [], ◌∷◌, length, get_or, set, Some, None, refl, subst, arith}
+use Rattle.std.specs.Prelude.{Option, if◌then◌else◌, ◌==◌}
 use Rattle.std.proofs.lemmas.Bool.Decides.{nat_tests}
-use Rattle.std.proofs.lemmas.List.{get_or_past, length-set}
-use Rattle.m3_base.specs.declared.message.Message.{Message}
-use Rattle.m3_base.specs.declared.command.Refusal.{Refusal}
 use Rattle.m3_base.specs.declared.command.Command.{Command}
 use Rattle.m3_base.specs.declared.packet.Packet.{Packet}
-use Rattle.m3_base.specs.Sums.{total, one, how_many}
-use Rattle.m3_base.specs.Context.{Kind, Sending, Replying, Reading, Writing, Flying, SendRecord, Fetched, ReceiveRecord, MemoryRecord, Endpoint, Free, Sends, Receives, Reaches, Context, endpoint, with_endpoint}
-use Rattle.m3_base.specs.Receive.{with_unread, with_fetched, fetched_at, unmarked, without_token, with_mark, freed, marking}
-use Rattle.m3_base.specs.Issue.{less_one, send, send_refusal, reply, fetch, acknowledge, read, write, unless, first_of, launched, Issued, issue, is_busy}
-use Rattle.m3_base.specs.Credit.{is_sent_by, is_owed, queued_at, held_at}
+use Rattle.m3_base.specs.Sums.{total, one}
+use Rattle.m3_base.specs.Context.{Endpoint, Free, Sends, Receives, Reaches, Context, endpoint}
+use Rattle.m3_base.specs.Receive.{freed, marking}
+use Rattle.m3_base.specs.Issue.{less_one, send, reply, fetch, acknowledge, read, write, Issued, issue, is_busy}
 use Rattle.m3_laws.proofs.Weights.{weight, context_weight, total-set, weight-less_one, weight-with_fetched, owed-without_token, owed-with_mark}
 
 -- a credit of g in a packet that is no answer

@@ -1,6 +1,6 @@
 -- Landings and answers keep a state sound, and its credits.
-use Rattle.std.proofs.Common.{◌≡◌, ◌≢◌, ℕ, zero, suc, ◌+◌, ◌-◌, ◌<◌, ◌≤◌, Bool, true, false, cond, List, [], ◌∷◌, ◌++◌, length, get_or, set, Some, None, refl, sym, subst, ◌∙◌, ap, arith, inl, inr}
-use Rattle.std.specs.Prelude.{Option, if◌then◌else◌, ◌==◌, nat_lt, not, ◌&&◌, ◌||◌, ◌⊎◌}
+use Rattle.std.proofs.Common.{◌≡◌, ℕ, zero, suc, ◌≤◌, Bool, true, false, List, [], ◌∷◌, length, get_or, set, Some, None, refl, sym, subst, ◌∙◌, ap, arith, inl, inr}
+use Rattle.std.specs.Prelude.{Option, if◌then◌else◌, ◌==◌, ◌||◌, ◌⊎◌}
 use Rattle.std.specs.List.{list_any}
 use Rattle.std.proofs.lemmas.Bool.Decides.{nat_tests}
 use Rattle.m3_base.specs.declared.ids.FlightId.{FlightId}
@@ -15,20 +15,20 @@ use Rattle.m3_base.specs.Issue.{Issued, issue}
 use Rattle.m3_base.specs.Steps.{Next, istep, issue_in, issued_in, await_in, message_in, credit_in, land_in, settle_in, answer_in, answered_in}
 use Rattle.m3_base.specs.Messages.{state_after, final}
 use Rattle.m3_laws.specs.Plain.{IsPlain, AllPlain}
-use Rattle.m3_base.specs.Flight.{name_of, same_name, name_before, flight, new_flight, change_flight, end_flight}
-use Rattle.m3_base.specs.Context.{Kind, Sending, Replying, Reading, Writing, Flying, SendRecord, ReceiveRecord, Endpoint, Free, Sends, Receives, Reaches, Context, endpoint, with_endpoint}
-use Rattle.m3_base.specs.Receive.{with_unread, fetched_at}
-use Rattle.m3_base.specs.Land.{settled, answered, without_flying, one_more, sends_by, credited, has_send, with_credit, joined, taken, land, land_by, land_refusal, Landed, flying_at, message_id, landed_answer, bytes_at, written_at}
-use Rattle.m3_base.specs.State.{State, context_of, put_context, act_of, same_act, act_before}
-use Rattle.m3_base.specs.Credit.{gives_back_by, gives_back_in, carries, waiting, credits}
-use Rattle.m3_base.proofs.Keyed.{find-replaced_other, find-replaced_same, total-replaced, how_many-replaced}
-use Rattle.m3_laws.proofs.Landing.{SameBack, same_back, same_back-taken, Known, after_landing, land_keeps, credits_are, same_act-itself}
-use Rattle.m3_base.proofs.Names.{Apart, Distinct, same_name-is, same_name-itself, same_name-turned, flight-change, apart-change, distinct-change, distinct-end, apart-end, ended}
+use Rattle.m3_base.specs.Flight.{name_of, same_name, name_before, flight, change_flight, end_flight}
+use Rattle.m3_base.specs.Context.{Kind, Sending, Replying, Flying, SendRecord, Endpoint, Free, Sends, Receives, Reaches, Context, endpoint, with_endpoint}
+use Rattle.m3_base.specs.Receive.{with_unread}
+use Rattle.m3_base.specs.Land.{settled, answered, without_flying, one_more, sends_by, credited, has_send, with_credit, joined, taken, land_by, land_refusal, flying_at, message_id, landed_answer, bytes_at, written_at}
+use Rattle.m3_base.specs.State.{State, context_of, put_context, same_act}
+use Rattle.m3_base.specs.Credit.{carries, waiting, credits}
+use Rattle.m3_base.proofs.Keyed.{find-replaced_same, total-replaced, how_many-replaced}
+use Rattle.m3_laws.proofs.Landing.{SameBack, same_back, same_back-taken, Known, after_landing, land_keeps, credits_are}
+use Rattle.m3_base.proofs.Names.{Apart, Distinct, same_name-is, same_name-itself, flight-change, apart-change, distinct-change, distinct-end, apart-end, ended}
 use Rattle.m3_laws.proofs.Standing.{Safe, safe, safe-sends, safe-receives, safe-then}
 use Rattle.m3_laws.proofs.Commands.{EachSafe, each_safe, each-set}
 use Rattle.m3_laws.proofs.Moving.{Moved}
 use Rattle.m3_laws.proofs.Answering.{after_ending, credit_keeps, answer_keeps, same_back-credit, OnlyFlies, answered_moved}
-use Rattle.m3_laws.proofs.Homes.{IsHome, has_home, HomeOf, QueueHome, EachHome, HomesStay, queue_home, home-push, each_set, any_safe, fetched-without, fetched-mark}
+use Rattle.m3_laws.proofs.Homes.{has_home, HomeOf, QueueHome, EachHome, queue_home, home-push, each_set, any_safe, fetched-without, fetched-mark}
 use Rattle.m3_laws.proofs.Sound.{PacketOk, ContextOk, Sound, SendsStay, act_found, name_found, found_after, homes_stay, packet_stays, other_context, apart_found, issue_sound, issue_credits}
 use Rattle.m3_laws.specs.Stands.{Stands, StandsAt, StandsBy}
 

@@ -1,25 +1,21 @@
 -- A packet that lands moves credits, and makes or loses none.
-use Rattle.std.proofs.Common.{◌≡◌, ◌≢◌, ℕ, zero, suc, ◌+◌, ◌-◌, ◌<◌, ◌≤◌, Bool, true, false, cond, List, [], ◌∷◌, ◌++◌, length, get_or, set, Some, None, refl, sym, ◌∙◌, ap, arith}
-use Rattle.std.specs.Prelude.{Option, if◌then◌else◌, ◌==◌, nat_lt, not, ◌&&◌, ◌||◌}
+use Rattle.std.proofs.Common.{◌≡◌, ℕ, zero, suc, ◌+◌, Bool, true, false, List, [], ◌∷◌, get_or, set, Some, None, refl, sym, ◌∙◌, ap, arith}
+use Rattle.std.specs.Prelude.{Option, if◌then◌else◌, ◌==◌, ◌&&◌, ◌||◌}
 use Rattle.std.specs.List.{list_any}
 use Rattle.std.proofs.lemmas.Bool.Decides.{nat_tests}
-use Rattle.std.proofs.lemmas.List.{get_or_past, length-set, get_or-set_same, get_or-set_other}
-use Rattle.m3_base.specs.declared.ids.FlightId.{FlightId}
 use Rattle.m3_base.specs.declared.message.Message.{Message}
 use Rattle.m3_base.specs.declared.command.Refusal.{Refusal}
-use Rattle.m3_base.specs.declared.command.Command.{Command}
 use Rattle.m3_base.specs.declared.command.Answer.{Answer}
 use Rattle.m3_base.specs.declared.packet.Packet.{Packet}
 use Rattle.m3_base.specs.Sums.{total, one, how_many}
-use Rattle.m3_base.specs.Keyed as keyed
-use Rattle.m3_base.specs.Flight.{name_of, same_name, name_before, flight, new_flight, change_flight, end_flight}
-use Rattle.m3_base.specs.Context.{Kind, Sending, Replying, Reading, Writing, Flying, SendRecord, Fetched, ReceiveRecord, MemoryRecord, Endpoint, Free, Sends, Receives, Reaches, Context, endpoint, with_endpoint}
-use Rattle.m3_base.specs.Receive.{with_unread, with_fetched, fetched_at, unmarked, without_token, with_mark, freed, marking}
-use Rattle.m3_base.specs.Land.{one_more, sends_by, more_at, credited, has_send, with_credit, joined, taken, land, message_id, landed_answer, land_by, land_refusal, Landed, flying_at}
+use Rattle.m3_base.specs.Flight.{name_of, same_name, name_before, flight, change_flight}
+use Rattle.m3_base.specs.Context.{Kind, Sending, Replying, Reading, Writing, Flying, SendRecord, Endpoint, Free, Sends, Receives, Reaches, Context, endpoint, with_endpoint}
+use Rattle.m3_base.specs.Receive.{with_unread}
+use Rattle.m3_base.specs.Land.{one_more, sends_by, credited, has_send, with_credit, joined, taken, message_id, landed_answer, land_by, land_refusal, Landed, flying_at}
 use Rattle.m3_base.specs.State.{State, context_of, put_context, act_of, same_act, act_before}
-use Rattle.m3_base.specs.Credit.{is_sent_by, is_owed, queued_at, held_at, gives_back, gives_back_by, gives_back_in, is_refusal, carries, waiting, held, flying, queued, credits}
-use Rattle.m3_base.proofs.Keyed.{total-replaced, how_many-replaced, find-replaced_other, find-replaced_same, total-without, how_many-without}
-use Rattle.m3_laws.proofs.Weights.{weight, context_weight, total-set, weight-with_unread, weight-credited}
+use Rattle.m3_base.specs.Credit.{queued_at, held_at, gives_back, gives_back_by, gives_back_in, is_refusal, carries, waiting, credits}
+use Rattle.m3_base.proofs.Keyed.{total-replaced, how_many-replaced, find-replaced_other, find-replaced_same}
+use Rattle.m3_laws.proofs.Weights.{weight, context_weight, weight-with_unread, weight-credited}
 use Rattle.m3_laws.proofs.Issuing.{weight-with_endpoint}
 
 -- ---- the weight of a context after a landing

@@ -34,7 +34,6 @@ use Rattle.m3_laws.proofs.Tree.{Changes, at_one, grant_added, grant_past}
 use Rattle.m3_laws.proofs.Ordering.{closing_changes, one_changes}
 use Rattle.m3_laws.proofs.Placing.{to_root, to_sent}
 use Rattle.m3_laws.proofs.Opened.{ever_lawful}
-use Rattle.m3_laws.proofs.Runs.{run_lawful}
 use Rattle.m3_laws.proofs.Gone.{gone_at}
 use Rattle.std.proofs.Common.{◌++◌, ◌-◌, arith}
 use Rattle.std.specs.Prelude.{◌==◌}

@@ -1,27 +1,23 @@
 -- One context and one flight change at a time.
-use Rattle.std.proofs.Common.{◌≡◌, ◌≢◌, ℕ, zero, suc, ◌+◌, ◌-◌, ◌<◌, ◌≤◌, Bool, true, false, cond, List, [], ◌∷◌, ◌++◌, length, get_or, set, Some, None, refl, sym, subst, ◌∙◌, ap, arith}
-use Rattle.std.specs.Prelude.{Option, if◌then◌else◌, ◌==◌, nat_lt, not, ◌&&◌, ◌||◌}
+use Rattle.std.proofs.Common.{◌≡◌, ◌≢◌, ℕ, ◌+◌, Bool, true, false, List, [], ◌∷◌, Some, None, refl, ◌∙◌, ap, arith}
+use Rattle.std.specs.Prelude.{Option, ◌&&◌}
 use Rattle.std.proofs.lemmas.Bool.Decides.{nat_tests}
 use Rattle.m3_base.specs.declared.ids.FlightId.{FlightId}
-use Rattle.m3_base.specs.declared.message.Message.{Message}
 use Rattle.m3_base.specs.declared.packet.Packet.{Packet}
-use Rattle.m3_base.specs.declared.command.Command.{Command}
 use Rattle.m3_base.specs.Sums.{total, one, how_many}
-use Rattle.m3_base.specs.Flight.{name_of, same_name, name_before, flight, new_flight, change_flight, end_flight}
-use Rattle.m3_base.specs.Context.{Kind, Flying, Endpoint, Free, Context, endpoint}
-use Rattle.m3_base.specs.Issue.{Issued, issue, next_id}
+use Rattle.m3_base.specs.Flight.{name_of, same_name, name_before, flight, end_flight}
+use Rattle.m3_base.specs.Context.{Flying, Context}
 use Rattle.m3_base.specs.Land.{flying_at}
-use Rattle.m3_base.specs.State.{State, context_of, put_context, act_of, same_act, act_before}
+use Rattle.m3_base.specs.State.{context_of, put_context, act_of, same_act, act_before}
 use Rattle.m3_base.specs.Steps.{with_packet}
-use Rattle.m3_base.specs.Credit.{gives_back, gives_back_by, gives_back_in, is_refusal, carries, waiting, credits}
+use Rattle.m3_base.specs.Credit.{gives_back_by, gives_back_in, is_refusal, carries, waiting}
 use Rattle.m3_base.proofs.Keyed.{total-replaced, total-inserted, total-without, how_many-without, how_many-inserted, find-replaced_other, find-replaced_same}
 use Rattle.m3_laws.proofs.Weights.{context_weight}
-use Rattle.m3_laws.proofs.Issuing.{bears, packet_weight, Keeps, issue_keeps}
+use Rattle.m3_laws.proofs.Issuing.{bears, packet_weight}
 use Rattle.m3_laws.proofs.Landing.{same_act-is, act_joins, same_act-itself}
-use Rattle.m3_laws.proofs.Standing.{Safe}
-use Rattle.m3_laws.proofs.Commands.{EachSafe, OwnBack, NewPacket, Does, issue_does}
-use Rattle.m3_base.proofs.Names.{Apart, Distinct, ended, same_name-is, same_name-turned}
-use Rattle.m3_laws.specs.Stands.{Stands, StandsAt, StandsBy}
+use Rattle.m3_laws.proofs.Commands.{EachSafe, OwnBack, NewPacket}
+use Rattle.m3_base.proofs.Names.{Apart, Distinct, ended}
+use Rattle.m3_laws.specs.Stands.{Stands, StandsBy}
 
 -- c becomes d, and only the flying command n may change
 pub record Moves (n : ℕ) (c d : Context) : Type 0 where

@@ -1,19 +1,15 @@
 -- Messages of a grant keep their order.
-use Rattle.std.proofs.Common.{◌≡◌, ◌≢◌, ℕ, zero, suc, ◌+◌, ◌<◌, ◌≤◌, Bool, true, false, cond, List, [], ◌∷◌, ◌++◌, Some, None, refl, sym, subst, ◌∙◌, ap, arith, append_assoc}
-use Rattle.std.specs.Prelude.{Option, if◌then◌else◌, ◌==◌, not, ◌&&◌, ◌||◌, filter}
-use Rattle.std.specs.List.{list_any}
-use Rattle.std.proofs.lemmas.Bool.Decides.{nat_tests}
+use Rattle.std.proofs.Common.{◌≡◌, ℕ, Bool, true, false, List, [], ◌∷◌, ◌++◌, Some, refl, sym, ◌∙◌, ap, arith, append_assoc}
+use Rattle.std.specs.Prelude.{if◌then◌else◌, not, ◌||◌, filter}
 use Rattle.std.proofs.lemmas.List.Elements.{filter-append}
 use Rattle.std.proofs.lemmas.List.{append-nil}
 use Rattle.m3_base.specs.declared.ids.FlightId.{FlightId}
 use Rattle.m3_base.specs.declared.message.Message.{Message}
 use Rattle.m3_base.specs.declared.packet.Packet.{Packet}
-use Rattle.m3_base.specs.declared.command.Answer.{Answer}
-use Rattle.m3_base.specs.Flight.{name_of, same_name, name_before, flight, new_flight, change_flight, end_flight}
+use Rattle.m3_base.specs.Flight.{name_of, same_name, name_before, flight, new_flight, change_flight}
 use Rattle.m3_base.specs.Land.{message_id}
-use Rattle.m3_base.specs.Credit.{is_sent_by}
-use Rattle.m3_base.specs.Messages.{only_of, sent_in, flying_of, is_named, kept, names_of}
-use Rattle.m3_base.proofs.Names.{Apart, Distinct, same_name-is, same_name-itself, same_name-turned}
+use Rattle.m3_base.specs.Messages.{sent_in, flying_of, is_named, kept, names_of}
+use Rattle.m3_base.proofs.Names.{same_name-itself}
 
 -- ---- messages that fly
 

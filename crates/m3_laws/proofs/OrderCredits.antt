@@ -1,22 +1,21 @@
 -- What the steps of grants do to credits.
-use Rattle.std.proofs.Common.{◌≡◌, ◌≢◌, ℕ, zero, suc, ◌+◌, ◌<◌, ◌≤◌, Bool, true, false, List, [], ◌∷◌, ◌++◌, length, get_or, set, Some, None, refl, sym, subst, ◌∙◌, ap, arith}
-use Rattle.std.specs.Prelude.{Option, if◌then◌else◌, ◌==◌, not, ◌&&◌, ◌||◌}
+use Rattle.std.proofs.Common.{◌≡◌, ◌≢◌, ℕ, ◌+◌, ◌<◌, false, List, length, Some, refl, ap, arith}
 use Rattle.std.proofs.lemmas.Bool.Decides.{nat_tests}
 use Rattle.m3_base.specs.declared.ids.FlightId.{FlightId}
 use Rattle.m3_base.specs.declared.packet.Packet.{Packet}
 use Rattle.m3_base.specs.declared.packet.Fresh.{Fresh}
 use Rattle.m3_base.specs.declared.order.GrantLine.{GrantLine}
-use Rattle.m3_base.specs.Sums.{total, one, how_many}
-use Rattle.m3_base.specs.Flight.{name_of, same_name, name_before, flight, new_flight, change_flight, end_flight}
-use Rattle.m3_base.specs.Context.{Flying, Endpoint, Free, Sends, Receives, Reaches, Context, endpoint, with_endpoint, opened}
+use Rattle.m3_base.specs.Sums.{one}
+use Rattle.m3_base.specs.Flight.{name_of, same_name, name_before, flight, end_flight}
+use Rattle.m3_base.specs.Context.{Endpoint, Free, Sends, Receives, Reaches, Context, endpoint, with_endpoint, opened}
 use Rattle.m3_base.specs.Land.{closed_at}
 use Rattle.m3_base.specs.State.{State, Grant, holder, holder_ep, context_of, put_context, act_of, same_act, act_before}
-use Rattle.m3_base.specs.Grants.{made, close_sent, kernel_id, revoked}
-use Rattle.m3_base.specs.Credit.{carries, waiting, held_at, queued_at, credits}
+use Rattle.m3_base.specs.Grants.{made, close_sent, kernel_id}
+use Rattle.m3_base.specs.Credit.{carries, waiting, credits}
 use Rattle.m3_base.proofs.Keyed.{total-replaced, total-without, total-inserted, how_many-inserted, how_many-without}
 use Rattle.m3_laws.proofs.Weights.{weight, context_weight, total-set}
-use Rattle.m3_laws.proofs.Issuing.{weight-with_endpoint, in_range}
-use Rattle.m3_laws.proofs.Landing.{credits_are, how_many-agree, carries-put, SameBack, BackAlike, EachAlike, alike, alike-set, back_by_alike}
+use Rattle.m3_laws.proofs.Issuing.{weight-with_endpoint}
+use Rattle.m3_laws.proofs.Landing.{credits_are, how_many-agree, carries-put, SameBack}
 use Rattle.m3_laws.proofs.Answering.{after_ending}
 
 -- Make: the new grant's limit waits in its Install

@@ -1,8 +1,6 @@
 -- The law of landings over whole runs without orders.
-use Rattle.std.proofs.Common.{◌≡◌, ◌≢◌, ℕ, zero, suc, ◌+◌, ◌<◌, ◌≤◌, Bool, true, false, List, [], ◌∷◌, ◌++◌, length, get_or, set, Some, None, refl, sym, subst, ◌∙◌, ap, arith, inl, inr, append_assoc}
+use Rattle.std.proofs.Common.{◌≡◌, ℕ, ◌+◌, ◌≤◌, Bool, true, false, List, [], ◌∷◌, ◌++◌, length, Some, None, refl, sym, subst, ◌∙◌, ap, arith, inl, inr, append_assoc}
 use Rattle.std.specs.Prelude.{Option, if◌then◌else◌, ◌==◌, not, ◌&&◌, ◌||◌, ◌⊎◌}
-use Rattle.std.specs.List.{list_any}
-use Rattle.std.proofs.lemmas.Bool.Decides.{nat_tests}
 use Rattle.std.proofs.lemmas.List.{append-nil}
 use Rattle.m3_base.specs.declared.ids.FlightId.{FlightId}
 use Rattle.m3_base.specs.declared.message.Message.{Message}
@@ -12,12 +10,12 @@ use Rattle.m3_base.specs.declared.command.Answer.{Answer}
 use Rattle.m3_base.specs.declared.command.Command.{Command}
 use Rattle.m3_base.specs.declared.step.Step.{Step}
 use Rattle.m3_base.specs.Flight.{name_of, same_name, name_before, flight, new_flight, change_flight, end_flight}
-use Rattle.m3_base.specs.Context.{Flying, Endpoint, Free, Context, endpoint, with_endpoint}
+use Rattle.m3_base.specs.Context.{Flying, Free, Context, endpoint, with_endpoint}
 use Rattle.m3_base.specs.Issue.{Issued, issue}
-use Rattle.m3_base.specs.Land.{joined, message_id, land_refusal, land_by, landed_answer, taken, has_send, with_credit, answered, settled, flying_at, bytes_at, written_at}
-use Rattle.m3_base.specs.State.{State, context_of, put_context, act_of, same_act}
+use Rattle.m3_base.specs.Land.{joined, message_id, land_refusal, land_by, landed_answer, taken, with_credit, answered, flying_at, bytes_at, written_at}
+use Rattle.m3_base.specs.State.{State, context_of, put_context}
 use Rattle.m3_base.specs.Steps.{Next, istep, issue_in, issued_in, await_in, message_in, credit_in, land_in, settle_in, answer_in, answered_in}
-use Rattle.m3_base.specs.Messages.{only_of, sent_in, new_message, flying_of, is_named, kept, names_of, issued_at, landed_at, refused_at, issued_from, issued_by, landed_in, refused_in, if_landed, if_refused, verdict, state_after, final, collect}
+use Rattle.m3_base.specs.Messages.{only_of, sent_in, flying_of, kept, names_of, issued_at, landed_at, refused_at, issued_from, issued_by, landed_in, refused_in, if_landed, if_refused, verdict, state_after, final, collect}
 use Rattle.m3_base.specs.declared.order.GrantLine.{GrantLine}
 use Rattle.m3_base.specs.declared.packet.Fresh.{Fresh}
 use Rattle.m3_base.specs.declared.event.No.{No}
@@ -30,7 +28,7 @@ use Rattle.m3_base.specs.Opening.{opening}
 use Rattle.m3_base.proofs.Keyed.{find-replaced_same}
 use Rattle.m3_base.proofs.Names.{Distinct, Apart, flight-change, same_name-is, same_name-itself}
 use Rattle.m3_laws.specs.Laws.{AllFit}
-use Rattle.m3_laws.specs.Order.{Exists, AllExist, LandsInOrder, LandingOrder}
+use Rattle.m3_laws.specs.Order.{Exists, AllExist, LandingOrder}
 use Rattle.m3_laws.specs.Invariant.{Invariant}
 use Rattle.m3_laws.proofs.Landing.{after_landing, same_back-taken}
 use Rattle.m3_laws.proofs.Answering.{after_ending}
@@ -40,7 +38,7 @@ use Rattle.m3_laws.proofs.Placing.{found_new, to_sent, to_closed, to_done}
 use Rattle.m3_laws.proofs.Invariants.{invariant_opening, invariant_step, invariant_ever}
 use Rattle.m3_laws.proofs.Quiets.{nothing_flies}
 use Rattle.m3_laws.proofs.Alone.{Single, single_sent, single_flying}
-use Rattle.m3_laws.proofs.Past.{Past, Later, NewName, past_stays, issue_past, landed_past, refused_past, other_past, later_put}
+use Rattle.m3_laws.proofs.Past.{Past, past_stays, issue_past, landed_past, refused_past, other_past, later_put}
 use Rattle.m3_laws.proofs.Order.{flying_of-change_other, flying_of-new_other, law_of_order}
 
 -- a flight that is no message of g ends

@@ -1,32 +1,25 @@
 -- Messages of a grant land in the order in which they were issued.
-use Rattle.std.proofs.Common.{◌≡◌, ◌≢◌, ℕ, zero, suc, ◌+◌, ◌<◌, ◌≤◌, Bool, true, false, List, [], ◌∷◌, ◌++◌, length, get_or, set, Some, None, refl, sym, subst, ◌∙◌, ap, arith, inl, inr, append_assoc, length-append}
-use Rattle.std.specs.Prelude.{Option, if◌then◌else◌, ◌==◌, not, ◌&&◌, ◌||◌, ◌⊎◌}
-use Rattle.std.specs.List.{list_any}
-use Rattle.std.proofs.lemmas.Bool.Decides.{nat_tests}
+use Rattle.std.proofs.Common.{◌≡◌, ℕ, ◌+◌, ◌≤◌, Bool, true, false, List, [], ◌∷◌, ◌++◌, length, Some, None, refl, sym, subst, ◌∙◌, ap, arith, inl, inr, length-append}
+use Rattle.std.specs.Prelude.{Option, if◌then◌else◌, not, ◌||◌, ◌⊎◌}
 use Rattle.std.proofs.lemmas.List.{append-nil}
 use Rattle.std.proofs.lemmas.List.Elements.{filter-append}
 use Rattle.m3_base.specs.declared.ids.FlightId.{FlightId}
 use Rattle.m3_base.specs.declared.message.Message.{Message}
 use Rattle.m3_base.specs.declared.packet.Packet.{Packet}
-use Rattle.m3_base.specs.declared.command.Refusal.{Refusal}
-use Rattle.m3_base.specs.declared.command.Answer.{Answer}
 use Rattle.m3_base.specs.declared.command.Command.{Command}
-use Rattle.m3_base.specs.Flight.{name_of, same_name, name_before, flight, new_flight, change_flight, end_flight}
-use Rattle.m3_base.specs.Context.{Flying, Endpoint, Free, Sends, Receives, Reaches, SendRecord, Context, endpoint, with_endpoint}
-use Rattle.m3_base.specs.Issue.{Issued, issue, next_id, send, reply, fetch, fetch_from, acknowledge, acknowledge_at, acknowledged, read, write, unless, is_busy, less_one, send_refusal, reply_refusal, reply_to, access_refusal, may_read, may_write, access, first_of}
-use Rattle.m3_base.specs.Receive.{fetched_at, unmarked}
-use Rattle.m3_base.specs.Land.{message_id, credited, sends_by, one_more, has_send, with_credit, joined, taken, flying_at}
+use Rattle.m3_base.specs.Flight.{name_of, same_name, name_before, flight, new_flight, change_flight}
+use Rattle.m3_base.specs.Context.{Context}
+use Rattle.m3_base.specs.Issue.{Issued, issue, next_id}
+use Rattle.m3_base.specs.Land.{message_id, flying_at}
 use Rattle.m3_base.specs.State.{State, context_of, put_context, act_of, same_act, act_before}
 use Rattle.m3_base.specs.Steps.{with_packet}
-use Rattle.m3_base.specs.Messages.{sent_in, new_message, flying_of, is_named, kept, names_of}
-use Rattle.m3_laws.proofs.Issuing.{some_is, came_through}
+use Rattle.m3_base.specs.Messages.{sent_in, new_message, flying_of, is_named, kept}
 use Rattle.m3_laws.proofs.Order.{flying_of-new_other, flying_of-new_only, flying_of-change, flying_of-change_only, flying_of-change_other, order-issued, order-landed, order-refused, named-append}
-use Rattle.m3_base.proofs.Names.{Apart, Distinct, flight-new, flight-change, same_name-is, same_name-itself, same_name-turned}
+use Rattle.m3_base.proofs.Names.{Apart, flight-new, flight-change, same_name-is, same_name-itself, same_name-turned}
 use Rattle.m3_base.specs.Credit.{gives_back_in}
-use Rattle.m3_laws.proofs.Kept.{set_sends}
 use Rattle.m3_laws.proofs.Alone.{Single, no_message, one_message, single_flying, single_sent, sent_message, sent_flies}
 use Rattle.m3_base.proofs.Keyed.{find-replaced_other, find-replaced_same}
-use Rattle.m3_laws.proofs.Landing.{has_send-joined, same_act-is, act_joins, same_act-itself}
+use Rattle.m3_laws.proofs.Landing.{same_act-is, act_joins, same_act-itself}
 use Rattle.m3_laws.proofs.Commands.{Does, NewPacket, issue_does}
 use Rattle.m3_base.proofs.Sorting.{find-new}
 use Rattle.m3_laws.specs.Invariant.{Invariant}

@@ -1,18 +1,17 @@
 -- A command of a proper context leaves it proper, and so is its packet.
-use Rattle.std.proofs.Common.{◌≡◌, ℕ, zero, suc, ◌+◌, ◌<◌, ◌≤◌, Bool, true, false, List, [], ◌∷◌, ◌++◌, length, get_or, set, Some, None, refl, sym, subst, ◌∙◌, ap, arith, replicate}
-use Rattle.std.specs.Prelude.{Option, if◌then◌else◌, ◌==◌, ◌&&◌, not, nat_lt, nat_le, is_some}
+use Rattle.std.proofs.Common.{◌≡◌, ℕ, ◌+◌, ◌<◌, ◌≤◌, Bool, true, false, List, [], ◌∷◌, ◌++◌, length, get_or, set, Some, None, refl, sym, subst, ◌∙◌, ap, arith, replicate}
+use Rattle.std.specs.Prelude.{Option, ◌==◌, nat_lt, is_some}
 use Rattle.std.proofs.lemmas.Bool.Decides.{nat_tests}
 use Rattle.std.proofs.lemmas.List.{length-replicate}
 use Rattle.m3_base.specs.declared.message.Message.{Message}
 use Rattle.m3_base.specs.declared.packet.Packet.{Packet}
-use Rattle.m3_base.specs.declared.packet.Perm.{Perm}
 use Rattle.m3_base.specs.declared.packet.Fresh.{Fresh}
 use Rattle.m3_base.specs.declared.command.Refusal.{Refusal}
 use Rattle.m3_base.specs.declared.command.Command.{Command}
-use Rattle.m3_base.specs.Context.{Kind, Sending, Replying, Reading, Writing, Flying, Fetched, SendRecord, ReceiveRecord, MemoryRecord, Endpoint, Free, Sends, Receives, Reaches, Context, endpoint, with_endpoint}
+use Rattle.m3_base.specs.Context.{Kind, Sending, Replying, Reading, Writing, Fetched, SendRecord, ReceiveRecord, MemoryRecord, Endpoint, Free, Sends, Receives, Reaches, Context, endpoint, with_endpoint}
 use Rattle.m3_base.specs.Receive.{with_fetched, fetched_at, unmarked, without_token, with_mark, freed, marking}
 use Rattle.m3_base.specs.Issue.{Told, Issued, less_one, send, send_refusal, send_packet, is_bad_reply, reply_grant, or_else, live_receive, no_endpoint, reply, reply_to, reply_refusal, reply_packet, fetch, fetch_from, acknowledge, acknowledge_at, acknowledged, read, write, access, access_refusal, may_read, may_write, unless, first_of, launched, next_id, issue, is_busy}
-use Rattle.m3_base.specs.Land.{grant_of, is_grant, flying_at}
+use Rattle.m3_base.specs.Land.{grant_of, flying_at}
 use Rattle.m3_base.specs.State.{Grant, grant_in}
 use Rattle.m3_base.specs.Steps.{number_of}
 use Rattle.m3_base.specs.Fits.{is_between, is_grant_number, is_reply_place, is_message, is_form}
@@ -23,7 +22,7 @@ use Rattle.m3_laws.specs.Lawful.{form_of, face}
 use Rattle.m3_laws.proofs.Counts.{SameFaces, some_at}
 use Rattle.m3_laws.proofs.Faces.{face_put}
 use Rattle.m3_laws.proofs.ProperSteps.{same_grant, tidy_set}
-use Rattle.m3_laws.specs.Proper.{Use, use_by, expects, is_proper, are_messages, are_fetched, is_tidy, is_covered, is_sent_as, is_entitled, uses_send, uses_read, uses_write, ProperContext}
+use Rattle.m3_laws.specs.Proper.{use_by, expects, is_proper, are_messages, are_fetched, is_tidy, is_sent_as, is_entitled, uses_send, uses_read, uses_write, ProperContext}
 
 -- a record's grant, with its form and number in their ranges
 pub record Recorded (gs : List Grant) (f : Fresh) : Type 0 where

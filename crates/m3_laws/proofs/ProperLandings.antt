@@ -1,6 +1,6 @@
 -- Commands, landings and answers leave a proper state.
-use Rattle.std.proofs.Common.{◌≡◌, ◌≢◌, ℕ, zero, suc, ◌+◌, ◌<◌, ◌≤◌, Bool, true, false, List, [], ◌∷◌, ◌++◌, length, get_or, set, Some, None, refl, sym, subst, ◌∙◌, ap, arith, inl, inr}
-use Rattle.std.specs.Prelude.{Option, if◌then◌else◌, ◌==◌, ◌⊎◌, ◌&&◌, nat_lt, nat_le, take, drop}
+use Rattle.std.proofs.Common.{◌≡◌, ◌≢◌, ℕ, zero, suc, ◌+◌, ◌≤◌, Bool, true, false, List, [], ◌∷◌, ◌++◌, length, get_or, set, Some, None, refl, sym, subst, ◌∙◌, ap, arith, inl, inr}
+use Rattle.std.specs.Prelude.{Option, if◌then◌else◌, ◌==◌, ◌⊎◌, nat_lt, take, drop}
 use Rattle.std.proofs.lemmas.Bool.Decides.{nat_tests}
 use Rattle.m3_base.specs.declared.ids.FlightId.{FlightId}
 use Rattle.m3_base.specs.declared.message.Message.{Message}
@@ -11,31 +11,27 @@ use Rattle.m3_base.specs.declared.command.Answer.{Answer}
 use Rattle.m3_base.specs.declared.command.Command.{Command}
 use Rattle.m3_base.specs.declared.command.Refusal.{Refusal}
 use Rattle.m3_base.specs.Flight.{flight, name_of, same_name, change_flight, end_flight}
-use Rattle.m3_base.specs.Context.{Kind, Sending, Replying, Reading, Writing, Flying, Fetched, Endpoint, Free, Sends, Receives, Reaches, Context, endpoint, with_endpoint, opened}
-use Rattle.m3_base.specs.Receive.{with_unread, freed, marking}
+use Rattle.m3_base.specs.Context.{Kind, Endpoint, Free, Sends, Receives, Reaches, Context, endpoint, with_endpoint}
 use Rattle.m3_base.specs.Issue.{Issued, issue, next_id}
-use Rattle.m3_base.specs.Land.{grant_of, flying_at, without_flying, land_refusal, land_by, landed_answer, message_id, taken, joined, credited, sends_by, more_at, one_more, with_credit, answered, settled, closed_at, bytes_at, written_at}
+use Rattle.m3_base.specs.Land.{flying_at, land_refusal, land_by, landed_answer, message_id, taken, joined, credited, sends_by, more_at, with_credit, written_at}
 use Rattle.m3_base.specs.State.{Grant, State, grant_in, context_of, put_context, act_of, same_act, act_before}
 use Rattle.m3_base.specs.Steps.{with_packet, number_of}
 use Rattle.m3_base.specs.Credit.{covers}
-use Rattle.m3_base.specs.Fits.{is_form, is_message, is_land_refusal, is_answer_for}
+use Rattle.m3_base.specs.Fits.{is_form, is_message, is_land_refusal}
 use Rattle.m3_base.proofs.Keyed.{find-replaced_same}
-use Rattle.m3_base.proofs.Names.{Apart, ended}
-use Rattle.m3_laws.proofs.Landing.{after_landing, same_act-is, same_act-itself}
+use Rattle.m3_base.proofs.Names.{Apart}
+use Rattle.m3_laws.proofs.Landing.{after_landing, same_act-itself}
 use Rattle.m3_laws.proofs.Answering.{after_ending}
 use Rattle.m3_laws.proofs.Commands.{NewPacket, Does, issue_does}
 use Rattle.m3_laws.proofs.Sound.{act_found, name_found, apart_found}
 use Rattle.m3_laws.proofs.Kept.{found_ended}
 use Rattle.m3_laws.specs.Lawful.{IsLawful, HeldAt, FormLawful, form_of}
-use Rattle.m3_laws.proofs.Counts.{SameFaces, same_faces, at_set}
-use Rattle.m3_laws.proofs.Tree.{grant_past}
-use Rattle.m3_laws.proofs.Places.{install_free}
+use Rattle.m3_laws.proofs.Counts.{SameFaces, same_faces}
 use Rattle.m3_laws.proofs.Placing.{found_new}
-use Rattle.m3_laws.proofs.Faces.{found_changed, issue_faces, taken_faces, credit_faces, answered_faces}
-use Rattle.m3_laws.proofs.ProperSteps.{same_grant, use_same, use_put, proper_put, Follows, tidy_set, lasts_same, packet_kept}
-use Rattle.m3_laws.proofs.ProperIssue.{Recorded, Ready, Emits, NewProper, issue_emits, messages_push, fetched_less, fetched_marked}
+use Rattle.m3_laws.proofs.Faces.{found_changed, issue_faces, taken_faces, credit_faces}
+use Rattle.m3_laws.proofs.ProperSteps.{same_grant, use_same, use_put, proper_put, Follows, tidy_set}
+use Rattle.m3_laws.proofs.ProperIssue.{Recorded, Ready, Emits, NewProper, issue_emits, messages_push}
 use Rattle.m3_laws.specs.Proper.{Use, use_by, use_of, use_in, gets, expects, uses_send, uses_reply, is_proper, is_tidy, is_covered, is_entitled, is_inside, ProperPacket, ProperContext, ProperGrant, IsProper}
-use Rattle.m3_laws.specs.Stands.{StandsAt, StandsBy}
 
 -- ---- a command
 
@@ -89,8 +85,8 @@ module _ (s : State) (a : ℕ) (k : Command) (c : Context) (i : Issued) (law : I
       let apart : same_name (record { issuer = c.act; number = c.next }) (name_of p) ≡ false = apart_found (record { issuer = c.act; number = c.next }) id p s.flights free f in
       let same = does.act in
       use_put s.contexts c i.context (name_of p) there (λ w.
-          let ne : (name_of p).number ≢ c.next = (λ q. grind (arith, nat_tests, apart, w, same, q)) in
-          ap (use_by i.context) (does.others (name_of p).number ne) ∙ use_same c i.context (same_grant c i.context faces) (flying_at (name_of p).number c.flying))
+      let ne : (name_of p).number ≢ c.next = (λ q. grind (arith, nat_tests, apart, w, same, q)) in
+      ap (use_by i.context) (does.others (name_of p).number ne) ∙ use_same c i.context (same_grant c i.context faces) (flying_at (name_of p).number c.flying))
 
   new : (p : Packet) → name_of p ≡ next_id c → (is_proper p ≡ true) × ((expects (use_by i.context (flying_at c.next i.context.flying)) p ≡ true) × (is_entitled s.grants p ≡ true)) → ProperPacket s.grants (put_context i.context s.contexts) p
   new p name h =

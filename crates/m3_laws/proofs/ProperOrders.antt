@@ -1,6 +1,6 @@
 -- Orders and answers leave a proper state.
-use Rattle.std.proofs.Common.{◌≡◌, ◌≢◌, ℕ, zero, suc, ◌+◌, ◌-◌, ◌<◌, ◌≤◌, Bool, true, false, List, [], ◌∷◌, ◌++◌, length, get_or, set, Some, None, refl, sym, subst, ◌∙◌, ap, arith, inl, inr}
-use Rattle.std.specs.Prelude.{Option, if◌then◌else◌, ◌==◌, ◌⊎◌, ◌&&◌, nat_lt, nat_le}
+use Rattle.std.proofs.Common.{◌≡◌, ◌≢◌, ℕ, ◌+◌, ◌-◌, ◌<◌, ◌≤◌, Bool, true, false, List, [], ◌∷◌, ◌++◌, length, get_or, set, Some, None, refl, sym, subst, ◌∙◌, ap, arith, inl, inr}
+use Rattle.std.specs.Prelude.{Option, if◌then◌else◌, ◌==◌, ◌⊎◌, nat_lt}
 use Rattle.std.specs.List.{list_any}
 use Rattle.std.proofs.lemmas.Bool.Decides.{nat_tests}
 use Rattle.m3_base.specs.declared.ids.FlightId.{FlightId}
@@ -9,11 +9,10 @@ use Rattle.m3_base.specs.declared.packet.Perm.{Perm}
 use Rattle.m3_base.specs.declared.packet.Fresh.{Fresh}
 use Rattle.m3_base.specs.declared.order.GrantLine.{GrantLine}
 use Rattle.m3_base.specs.declared.command.Answer.{Answer}
-use Rattle.m3_base.specs.Flight.{kernel, flight, name_of, same_name, new_flight, end_flight}
+use Rattle.m3_base.specs.Flight.{flight, name_of, same_name, new_flight, end_flight}
 use Rattle.m3_base.specs.Context.{Kind, Sending, Replying, Reading, Writing, Flying, Endpoint, Free, Sends, Receives, Reaches, Context, endpoint, with_endpoint, opened}
-use Rattle.m3_base.specs.Receive.{freed, marking}
 use Rattle.m3_base.specs.Land.{grant_of, flying_at, without_flying, answered, settled, closed_at, flies_at, uses}
-use Rattle.m3_base.specs.State.{Grant, State, grant_in, parent_in, parent_of, undone, is_done, holder, holder_ep, context_of, put_context, same_act}
+use Rattle.m3_base.specs.State.{Grant, State, grant_in, parent_in, undone, is_done, holder, holder_ep, context_of, put_context, same_act}
 use Rattle.m3_base.specs.Grants.{form, send_form, part_form, new_grant, is_outside, fresh_of, made, kernel_id, close_sent, change_grant, revoked, rooted, closing_where, marks_under, or_false, to_closing}
 use Rattle.std.specs.Prelude.{slice_get}
 use Rattle.m3_base.specs.Limits.{is_within, is_in_limits}
@@ -24,15 +23,14 @@ use Rattle.m3_laws.proofs.Sound.{act_found, apart_found}
 use Rattle.m3_laws.proofs.Kept.{found_ended}
 use Rattle.m3_laws.specs.Lawful.{IsLawful}
 use Rattle.m3_laws.proofs.Counts.{at_set}
-use Rattle.m3_laws.proofs.Tree.{Changes, at_one, grant_added, grant_past, changed_from}
+use Rattle.m3_laws.proofs.Tree.{Changes, at_one, grant_added, changed_from}
 use Rattle.m3_laws.proofs.Ordering.{closing_changes, one_changes}
-use Rattle.m3_laws.proofs.Places.{install_free}
 use Rattle.m3_laws.proofs.Placing.{found_new, to_sent, to_closed, to_done, to_root}
 use Rattle.m3_laws.proofs.Faces.{answered_faces}
-use Rattle.m3_laws.proofs.ProperSteps.{same_grant, use_same, use_put, proper_put, tidy_set, lasts_same, lasts_changed, lasts_added, Lasts, packet_kept}
+use Rattle.m3_laws.proofs.ProperSteps.{same_grant, use_same, use_put, proper_put, tidy_set, lasts_changed, lasts_added, Lasts, packet_kept}
 use Rattle.m3_laws.proofs.ProperIssue.{fetched_less, fetched_marked}
-use Rattle.m3_laws.proofs.ProperLandings.{Rests, rests_faces, proper_ended}
-use Rattle.m3_laws.specs.Proper.{Use, use_by, use_of, expects, is_proper, is_tidy, is_entitled, is_held_at, is_inside, ProperPacket, ProperContext, ProperGrant, IsProper}
+use Rattle.m3_laws.proofs.ProperLandings.{Rests}
+use Rattle.m3_laws.specs.Proper.{use_by, is_tidy, is_held_at, is_inside, ProperPacket, ProperContext, ProperGrant, IsProper}
 use Rattle.m3_laws.specs.Stands.{Stands, StandsAt, StandsBy}
 
 -- ---- an endpoint that no command uses changes

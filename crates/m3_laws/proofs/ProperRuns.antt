@@ -1,6 +1,6 @@
 -- Each step leaves a proper state, and each valid setup opens with one.
-use Rattle.std.proofs.Common.{◌≡◌, ℕ, zero, suc, ◌+◌, ◌<◌, ◌≤◌, Bool, true, false, List, [], ◌∷◌, ◌++◌, length, replicate, Some, None, refl, sym, subst, ◌∙◌, ap, arith, inl, inr}
-use Rattle.std.specs.Prelude.{Option, if◌then◌else◌, ◌==◌, ◌⊎◌, ◌&&◌, ◌||◌, not, nat_lt, nat_le, is_none, drop}
+use Rattle.std.proofs.Common.{◌≡◌, ℕ, ◌+◌, ◌≤◌, Bool, true, false, List, [], ◌∷◌, length, replicate, Some, None, refl, sym, subst, ◌∙◌, ap, arith, inl, inr}
+use Rattle.std.specs.Prelude.{Option, if◌then◌else◌, ◌⊎◌, ◌&&◌, ◌||◌, not, nat_lt, nat_le, is_none, drop}
 use Rattle.std.proofs.lemmas.Bool.Decides.{nat_tests}
 use Rattle.std.proofs.lemmas.List.{length-replicate}
 use Rattle.m3_base.specs.declared.ids.FlightId.{FlightId}
@@ -14,18 +14,17 @@ use Rattle.m3_base.specs.declared.command.Answer.{Answer}
 use Rattle.m3_base.specs.declared.command.Command.{Command}
 use Rattle.m3_base.specs.declared.step.Step.{Step}
 use Rattle.m3_base.specs.declared.event.No.{No}
-use Rattle.m3_base.specs.Flight.{flight, name_of, change_flight}
+use Rattle.m3_base.specs.Flight.{flight, change_flight}
 use Rattle.m3_base.specs.Context.{Flying, Free, Context, endpoint, with_endpoint, opened, new_context}
 use Rattle.m3_base.specs.Issue.{Issued, issue}
 use Rattle.m3_base.specs.Land.{land_refusal, flying_at, closed_at, has_live, has_closing, flies_at, bytes_at, written_at}
 use Rattle.m3_base.specs.State.{Grant, State, context_of, put_context, new_context_in, grant_in, holder, holder_ep, parent_of, parent_in, undone}
-use Rattle.m3_base.specs.Grants.{form, make_refusal, may_close, close_sent, change_grant, kernel_id, is_outside, fresh_of, is_closed_grant, new_grant, revoke_refusal}
+use Rattle.m3_base.specs.Grants.{form, make_refusal, may_close, close_sent, change_grant, kernel_id, is_outside, fresh_of, is_closed_grant, revoke_refusal}
 use Rattle.m3_base.specs.Steps.{Starts_closing, Is_closed, Sends_close, Frees, Is_done, Next, istep, issue_in, issued_in, await_in, message_in, credit_in, install_in, close_in, land_in, settle_in, answer_in, answered_in, make_in, make_for, revoke_in, send_close_in, closed_in, free_in, done_in, then_say}
 use Rattle.m3_base.specs.Opening.{opening, with_line, with_lines, granted, installed}
 use Rattle.m3_base.specs.Setup.{Facts, SetupValue, IsValid, AllKept, InRange, no_lines, noted, refuses}
 use Rattle.m3_base.specs.Limits.{is_in_limits}
-use Rattle.m3_base.specs.Fits.{is_form, is_answer_for}
-use Rattle.m3_base.proofs.SetupRules.{grant_allowed, noted_memory}
+use Rattle.m3_base.proofs.SetupRules.{grant_allowed}
 use Rattle.m3_base.proofs.Obeying.{Ties, obeys, ties, tied_at_first}
 use Rattle.m3_laws.proofs.Answering.{after_ending}
 use Rattle.m3_laws.proofs.Sound.{act_found, name_found}
@@ -33,10 +32,10 @@ use Rattle.m3_laws.specs.Lawful.{IsLawful}
 use Rattle.m3_laws.proofs.Places.{install_free}
 use Rattle.m3_laws.proofs.Placing.{to_closed, to_done}
 use Rattle.m3_laws.proofs.Opened.{find_inserted, free_at, no_grant}
-use Rattle.m3_laws.proofs.ProperSteps.{proper_put, use_put}
+use Rattle.m3_laws.proofs.ProperSteps.{proper_put}
 use Rattle.m3_laws.proofs.ProperLandings.{issue_proper, rests_credit, proper_ended, message_proper, proper_served, covered_inside, written_length, take_short}
 use Rattle.m3_laws.proofs.ProperOrders.{rests_install, rests_close, answer_proper, revoke_proper, done_proper, closed_proper, sent_proper, made_proper, line_proper, proper_undone, proper_grown, set_tidy, opened_tidy}
-use Rattle.m3_laws.specs.Proper.{Use, use_of, gets, expects, uses_read, uses_write, is_proper, is_tidy, is_inside, ProperPacket, ProperContext, ProperGrant, IsProper}
+use Rattle.m3_laws.specs.Proper.{Use, use_of, gets, uses_read, uses_write, is_tidy, ProperContext, IsProper}
 use Rattle.m3_laws.specs.Laws.{Fits}
 
 abbrev pub AllProper : Option Next → Type 0

@@ -1,25 +1,23 @@
 -- Proper states stay proper: what one context's change leaves.
-use Rattle.std.proofs.Common.{◌≡◌, ◌≢◌, ℕ, zero, suc, ◌+◌, ◌<◌, ◌≤◌, Bool, true, false, List, [], ◌∷◌, ◌++◌, length, get_or, set, Some, None, refl, sym, subst, ◌∙◌, ap, arith, inl, inr}
-use Rattle.std.specs.Prelude.{Option, if◌then◌else◌, ◌==◌, ◌⊎◌, ◌&&◌}
+use Rattle.std.proofs.Common.{◌≡◌, ℕ, zero, suc, ◌+◌, Bool, true, false, List, [], ◌∷◌, ◌++◌, length, get_or, set, Some, None, refl, sym, subst, ◌∙◌, ap, arith, inl, inr}
+use Rattle.std.specs.Prelude.{Option, if◌then◌else◌, ◌==◌, ◌⊎◌}
 use Rattle.std.specs.Option.{option_map}
 use Rattle.std.proofs.lemmas.Bool.Decides.{nat_tests}
 use Rattle.m3_base.specs.declared.ids.FlightId.{FlightId}
 use Rattle.m3_base.specs.declared.packet.Packet.{Packet}
 use Rattle.m3_base.specs.declared.packet.Perm.{Perm}
-use Rattle.m3_base.specs.declared.packet.Fresh.{Fresh}
-use Rattle.m3_base.specs.Flight.{flight, name_of, same_name}
-use Rattle.m3_base.specs.Context.{Kind, Flying, Endpoint, Free, Sends, Receives, Reaches, Context, endpoint}
+use Rattle.m3_base.specs.Flight.{flight, name_of}
+use Rattle.m3_base.specs.Context.{Flying, Endpoint, Free, Sends, Receives, Reaches, Context, endpoint}
 use Rattle.m3_base.specs.Land.{grant_of, flying_at}
-use Rattle.m3_base.specs.State.{Grant, State, grant_in, holder, holder_ep, context_of, put_context, act_of, same_act, act_before}
+use Rattle.m3_base.specs.State.{Grant, State, grant_in, context_of, put_context, act_of, same_act, act_before}
 use Rattle.m3_base.specs.Steps.{number_of}
-use Rattle.m3_base.specs.Credit.{covers}
 use Rattle.m3_base.proofs.Keyed.{find-replaced_same, find-replaced_other}
 use Rattle.m3_laws.proofs.Landing.{same_act-is, act_joins, same_act-itself}
 use Rattle.m3_laws.proofs.Sound.{found_after}
 use Rattle.m3_laws.specs.Lawful.{form_of}
 use Rattle.m3_laws.proofs.Counts.{SameFaces, same_form}
 use Rattle.m3_laws.proofs.Tree.{Changes, grant_added, grant_past}
-use Rattle.m3_laws.specs.Proper.{Use, use_by, use_in, use_of, expects, is_proper, is_tidy, is_covered, is_held_at, is_sent_as, is_entitled, ProperPacket, ProperContext, ProperGrant, IsProper}
+use Rattle.m3_laws.specs.Proper.{use_by, use_of, expects, is_tidy, is_covered, is_held_at, is_sent_as, is_entitled, ProperPacket, ProperContext, IsProper}
 
 -- ---- what commands use
 

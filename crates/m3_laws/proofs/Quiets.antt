@@ -4,7 +4,6 @@ use Rattle.std.specs.Prelude.{Option, if◌then◌else◌, not, ◌&&◌, ◌⊎
 use Rattle.m3_base.specs.declared.ids.FlightId.{FlightId}
 use Rattle.m3_base.specs.declared.message.Message.{Message}
 use Rattle.m3_base.specs.declared.packet.Packet.{Packet}
-use Rattle.m3_base.specs.declared.packet.Fresh.{Fresh}
 use Rattle.m3_base.specs.declared.command.Answer.{Answer}
 use Rattle.m3_base.specs.declared.command.Command.{Command}
 use Rattle.m3_base.specs.declared.command.Refusal.{Refusal}
@@ -14,16 +13,15 @@ use Rattle.m3_base.specs.declared.step.Step.{Step}
 use Rattle.m3_base.specs.Flight.{flight, name_of, change_flight, end_flight}
 use Rattle.m3_base.specs.Context.{Flying, Free, Context, endpoint, with_endpoint}
 use Rattle.m3_base.specs.Issue.{Issued, issue}
-use Rattle.m3_base.specs.Land.{land_by, land_refusal, landed_answer, message_id, flying_at, has_live, has_closing, flies_at, bytes_at, closed_at}
+use Rattle.m3_base.specs.Land.{land_by, land_refusal, landed_answer, message_id, flying_at, has_closing, flies_at, bytes_at}
 use Rattle.m3_base.specs.State.{Grant, State, context_of, put_context, grant_in, holder, holder_ep, parent_in, parent_of}
 use Rattle.m3_base.specs.Grants.{form, revoke_refusal, change_grant, is_closed_grant}
-use Rattle.m3_base.specs.Steps.{Next, istep, Ran, irun, on_from, with_word, with_packet, issue_in, issued_in, await_in, message_in, credit_in, install_in, close_in, land_in, settle_in, answer_in, answered_in, revoke_in, closed_in, free_in, done_in, then_say, Frees, Is_done, Starts_closing, Is_closed}
+use Rattle.m3_base.specs.Steps.{Next, istep, Ran, irun, on_from, with_word, with_packet, issue_in, issued_in, await_in, message_in, credit_in, land_in, settle_in, answer_in, answered_in, revoke_in, closed_in, free_in, done_in, then_say, Frees, Is_done}
 use Rattle.m3_base.specs.Opening.{opening, with_line, with_lines}
 use Rattle.m3_base.proofs.Names.{Apart}
 use Rattle.m3_laws.specs.Quiet.{IsData, Quiet, IsQuietStep, AllQuiet}
 use Rattle.m3_laws.specs.Lawful.{IsLawful}
 use Rattle.m3_laws.specs.Invariant.{Invariant}
-use Rattle.m3_laws.proofs.Answering.{after_ending}
 use Rattle.m3_laws.proofs.Commands.{Does, NewPacket, issue_does}
 use Rattle.m3_laws.proofs.Sound.{name_found}
 use Rattle.m3_laws.proofs.Kept.{found_ended}

@@ -1,8 +1,6 @@
 -- The messages of a grant that were fetched, and then those that are unread, are those that landed.
-use Rattle.std.proofs.Common.{◌≡◌, ◌≢◌, ℕ, zero, suc, ◌+◌, ◌<◌, ◌≤◌, Bool, true, false, List, [], ◌∷◌, ◌++◌, length, get_or, set, Some, None, refl, sym, subst, ◌∙◌, ap, arith, inl, inr, append_assoc}
-use Rattle.std.specs.Prelude.{Option, if◌then◌else◌, ◌==◌, not, ◌&&◌, ◌||◌, ◌⊎◌}
-use Rattle.std.specs.Option.{option_map}
-use Rattle.std.proofs.lemmas.Bool.Decides.{nat_tests}
+use Rattle.std.proofs.Common.{◌≡◌, ℕ, zero, suc, Bool, true, false, List, [], ◌∷◌, ◌++◌, length, get_or, set, Some, None, refl, sym, subst, ◌∙◌, ap, inl, inr, append_assoc}
+use Rattle.std.specs.Prelude.{Option, if◌then◌else◌, ◌==◌, ◌⊎◌}
 use Rattle.std.proofs.lemmas.List.{append-nil}
 use Rattle.m3_base.specs.declared.ids.FlightId.{FlightId}
 use Rattle.m3_base.specs.declared.message.Message.{Message}
@@ -11,17 +9,16 @@ use Rattle.m3_base.specs.declared.packet.Fresh.{Fresh}
 use Rattle.m3_base.specs.declared.command.Refusal.{Refusal}
 use Rattle.m3_base.specs.declared.command.Reply.{Reply}
 use Rattle.m3_base.specs.declared.command.Command.{Command}
-use Rattle.m3_base.specs.Flight.{flight, name_of}
-use Rattle.m3_base.specs.Context.{Kind, Sending, Replying, Reading, Writing, SendRecord, ReceiveRecord, Endpoint, Free, Sends, Receives, Reaches, Context, endpoint, with_endpoint, opened}
-use Rattle.m3_base.specs.Receive.{with_fetched, with_unread, fetched_at, unmarked, freed, marking}
+use Rattle.m3_base.specs.Flight.{flight}
+use Rattle.m3_base.specs.Context.{Kind, Sending, Reading, Writing, ReceiveRecord, Endpoint, Free, Sends, Receives, Reaches, Context, endpoint, with_endpoint}
+use Rattle.m3_base.specs.Receive.{with_fetched, fetched_at, unmarked, freed, marking}
 use Rattle.m3_base.specs.Issue.{Told, Issued, issue, send, send_refusal, send_packet, next_id, launched, less_one, unless, reply, reply_refusal, reply_to, fetch, fetch_from, acknowledge, acknowledge_at, acknowledged, read, write, access, access_refusal, may_read, may_write, first_of, is_busy}
-use Rattle.m3_base.specs.Land.{grant_of, joined, credited, sends_by, more_at, one_more, closed_at}
-use Rattle.m3_base.specs.State.{Grant, State, context_of, put_context, same_act, grant_in, parent_of, holder, holder_ep}
+use Rattle.m3_base.specs.Land.{grant_of, credited, sends_by, more_at}
+use Rattle.m3_base.specs.State.{Grant, State, context_of, put_context, same_act, grant_in, holder, holder_ep}
 use Rattle.m3_base.specs.Steps.{number_of}
 use Rattle.m3_base.specs.Messages.{IsPrefix, only_of, shown_by}
 use Rattle.m3_laws.specs.Laws.{parent_at}
 use Rattle.m3_laws.specs.Invariant.{Invariant}
-use Rattle.m3_laws.specs.Held.{HeldThere}
 use Rattle.m3_laws.proofs.Issuing.{some_is, came_through}
 use Rattle.m3_laws.proofs.Sound.{found_after}
 use Rattle.m3_laws.proofs.Counts.{at_set}

@@ -1,34 +1,27 @@
 -- What holds of every ideal state that is reached without orders, and the credit law there.
-use Rattle.std.proofs.Common.{◌≡◌, ◌≢◌, ℕ, zero, suc, ◌+◌, ◌-◌, ◌<◌, ◌≤◌, Bool, true, false, cond, List, [], ◌∷◌, ◌++◌, length, get_or, set, Some, None, refl, sym, subst, ◌∙◌, ap, arith, inl, inr}
-use Rattle.std.specs.Prelude.{Option, if◌then◌else◌, ◌==◌, nat_lt, not, ◌&&◌, ◌||◌, ◌⊎◌}
+use Rattle.std.proofs.Common.{◌≡◌, ◌≢◌, ℕ, ◌<◌, ◌≤◌, Bool, true, false, List, [], ◌∷◌, length, get_or, Some, None, refl, sym, subst, ◌∙◌, ap, arith, inl, inr}
+use Rattle.std.specs.Prelude.{Option, ◌==◌, ◌⊎◌}
 use Rattle.std.specs.List.{list_any}
 use Rattle.std.proofs.lemmas.Bool.Decides.{nat_tests}
 use Rattle.m3_base.specs.declared.ids.FlightId.{FlightId}
-use Rattle.m3_base.specs.declared.message.Message.{Message}
 use Rattle.m3_base.specs.declared.packet.Packet.{Packet}
-use Rattle.m3_base.specs.declared.command.Answer.{Answer}
-use Rattle.m3_base.specs.declared.command.Refusal.{Refusal}
 use Rattle.m3_base.specs.declared.command.Command.{Command}
-use Rattle.m3_base.specs.declared.step.Step.{Step}
-use Rattle.m3_base.specs.Flight.{name_of, same_name, name_before, flight, new_flight, change_flight, end_flight}
-use Rattle.m3_base.specs.Context.{Kind, Sending, Replying, Reading, Writing, Flying, SendRecord, ReceiveRecord, Endpoint, Free, Sends, Receives, Reaches, Context, endpoint, with_endpoint}
-use Rattle.m3_base.specs.Receive.{with_unread, fetched_at}
+use Rattle.m3_base.specs.Flight.{name_of, same_name, flight, new_flight}
+use Rattle.m3_base.specs.Context.{Flying, Endpoint, Free, Context}
 use Rattle.m3_base.specs.Issue.{Issued, issue, next_id}
-use Rattle.m3_base.specs.Land.{one_more, sends_by, credited, has_send, with_credit, joined, taken, land, land_by, land_refusal, Landed, flying_at, message_id, landed_answer}
+use Rattle.m3_base.specs.Land.{sends_by, has_send, flying_at, message_id}
 use Rattle.m3_base.specs.State.{State, context_of, put_context, act_of, same_act, act_before}
-use Rattle.m3_base.specs.Steps.{Next, istep, with_packet, issued_in, landed_in}
-use Rattle.m3_base.specs.Credit.{gives_back_by, gives_back_in, carries, waiting, credits}
+use Rattle.m3_base.specs.Steps.{with_packet}
+use Rattle.m3_base.specs.Credit.{gives_back_by, gives_back_in, credits}
 use Rattle.m3_base.proofs.Keyed.{find-replaced_other, find-replaced_same}
-use Rattle.m3_laws.proofs.Weights.{context_weight}
-use Rattle.m3_laws.proofs.Issuing.{packet_weight, issue_keeps}
+use Rattle.m3_laws.proofs.Issuing.{issue_keeps}
 use Rattle.m3_laws.proofs.Landing.{same_act-is, act_joins, same_act-itself, credits_are}
-use Rattle.m3_base.proofs.Names.{Apart, Distinct, same_name-is, same_name-itself, same_name-turned, flight-new, distinct-new}
+use Rattle.m3_base.proofs.Names.{Apart, Distinct, same_name-is, flight-new, distinct-new}
 use Rattle.m3_base.proofs.Sorting.{find-new}
-use Rattle.m3_laws.proofs.Standing.{Safe}
-use Rattle.m3_laws.proofs.Commands.{EachSafe, OwnBack, NewPacket, Does, issue_does}
-use Rattle.m3_laws.proofs.Moving.{Moves, Moved, moved, back_in_moved, credits_issued}
-use Rattle.m3_laws.proofs.Homes.{IsHome, has_home, HomeOf, QueueHome, EachHome, HomesStay, queue_home, any_safe, NewHome, Homes, issue_homes}
-use Rattle.m3_laws.specs.Stands.{Stands, StandsAt, StandsBy}
+use Rattle.m3_laws.proofs.Commands.{NewPacket, Does, issue_does}
+use Rattle.m3_laws.proofs.Moving.{Moved, moved, back_in_moved, credits_issued}
+use Rattle.m3_laws.proofs.Homes.{IsHome, has_home, HomeOf, EachHome, HomesStay, queue_home, any_safe, NewHome, Homes, issue_homes}
+use Rattle.m3_laws.specs.Stands.{Stands, StandsBy}
 
 abbrev pub PacketOk : List Context → Packet → Type 0
 PacketOk cs (Packet.Message to ep h m) =

@@ -1,16 +1,11 @@
 -- The records of flying commands stay, and what an answer gives back stays the same.
-use Rattle.std.proofs.Common.{◌≡◌, ◌≢◌, ℕ, zero, suc, ◌+◌, ◌-◌, ◌<◌, ◌≤◌, Bool, true, false, cond, List, [], ◌∷◌, ◌++◌, length, get_or, set, Some, None, refl, sym, subst, ◌∙◌, ap, arith}
-use Rattle.std.specs.Prelude.{Option, if◌then◌else◌, ◌==◌, nat_lt, not, ◌&&◌, ◌||◌}
+use Rattle.std.proofs.Common.{◌≡◌, ◌≢◌, ℕ, Bool, List, [], ◌∷◌, ◌++◌, Some, None, refl, sym, subst, ◌∙◌, ap, arith}
+use Rattle.std.specs.Prelude.{Option, ◌==◌}
 use Rattle.std.proofs.lemmas.Bool.Decides.{nat_tests}
 use Rattle.m3_base.specs.declared.message.Message.{Message}
-use Rattle.m3_base.specs.declared.packet.Packet.{Packet}
-use Rattle.m3_base.specs.declared.command.Answer.{Answer}
-use Rattle.m3_base.specs.declared.command.Command.{Command}
-use Rattle.m3_base.specs.Context.{Kind, Sending, Replying, Reading, Writing, Flying, SendRecord, Fetched, ReceiveRecord, MemoryRecord, Endpoint, Free, Sends, Receives, Reaches, Context, endpoint, with_endpoint}
-use Rattle.m3_base.specs.Receive.{with_unread, with_fetched, fetched_at, unmarked, without_token, with_mark, freed, marking}
-use Rattle.m3_base.specs.Issue.{less_one, send, reply, fetch, acknowledge, read, write, unless, first_of, launched, Issued, issue}
-use Rattle.m3_base.specs.Land.{one_more, sends_by, more_at, credited, joined, taken, flying_at, without_flying}
-use Rattle.m3_base.specs.Credit.{gives_back, gives_back_by, is_through}
+use Rattle.m3_base.specs.Context.{Kind, Sending, Replying, Reading, Writing, SendRecord, Fetched, ReceiveRecord, Endpoint, Free, Sends, Receives}
+use Rattle.m3_base.specs.Receive.{fetched_at, unmarked, without_token, with_mark}
+use Rattle.m3_base.specs.Credit.{gives_back, is_through}
 use Rattle.m3_laws.specs.Stands.{IsBeingRepliedTo, StandsAt}
 
 -- e may become d: what stands at e stands at d, and gives the same back

@@ -1,15 +1,15 @@
 -- What was sent through a grant, and flies, was sent through a record, so the grant is open.
-use Rattle.std.proofs.Common.{◌≡◌, ℕ, ◌+◌, Bool, true, false, List, length, Some, None, refl, sym, subst, ◌∙◌, ap, arith}
-use Rattle.std.specs.Prelude.{Option, if◌then◌else◌, ◌==◌, ◌&&◌, ◌||◌, IsTrue}
+use Rattle.std.proofs.Common.{◌≡◌, ℕ, Bool, true, false, List, length, Some, None, refl, subst, ◌∙◌, ap, arith}
+use Rattle.std.specs.Prelude.{Option, if◌then◌else◌, ◌==◌, ◌||◌, IsTrue}
 use Rattle.std.proofs.lemmas.Bool.Decides.{nat_tests}
 use Rattle.m3_base.specs.declared.ids.FlightId.{FlightId}
 use Rattle.m3_base.specs.declared.message.Message.{Message}
 use Rattle.m3_base.specs.declared.packet.Packet.{Packet}
 use Rattle.m3_base.specs.declared.packet.Perm.{Perm}
-use Rattle.m3_base.specs.Flight.{flight, name_of}
+use Rattle.m3_base.specs.Flight.{flight}
 use Rattle.m3_base.specs.Context.{Flying, Context, endpoint}
 use Rattle.m3_base.specs.Land.{grant_of, is_grant, flying_at, message_id}
-use Rattle.m3_base.specs.State.{Standing, Live, Closing, Closed, Done, Grant, State, context_of, grant_in, is_live}
+use Rattle.m3_base.specs.State.{Standing, Live, Closing, Closed, Done, State, context_of, grant_in, is_live}
 use Rattle.m3_base.specs.Grants.{is_closing_grant}
 use Rattle.m3_base.specs.Credit.{covers, granted_by, Granted}
 use Rattle.m3_base.specs.Opening.{opening}
@@ -17,7 +17,7 @@ use Rattle.m3_base.specs.Messages.{final}
 use Rattle.m3_laws.specs.Laws.{is_open, goes_through, AccessLaw}
 use Rattle.m3_laws.proofs.Invariants.{invariant_ever}
 use Rattle.m3_laws.specs.Lawful.{open_at}
-use Rattle.m3_laws.specs.Proper.{Use, use_by, use_in, use_of, uses_send, uses_reply, uses_read, uses_write, is_covered, expects}
+use Rattle.m3_laws.specs.Proper.{Use, use_by, use_in, use_of, uses_send, uses_reply, uses_read, uses_write, is_covered}
 use Rattle.m3_laws.specs.Invariant.{Invariant}
 use Rattle.m3_laws.specs.Held.{HeldThere}
 use Rattle.m3_laws.proofs.Fitting.{held_there}

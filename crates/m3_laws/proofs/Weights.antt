@@ -1,16 +1,14 @@
 -- What each change of an endpoint does to the credits that it holds or owes.
-use Rattle.std.proofs.Common.{◌≡◌, ◌≢◌, ℕ, zero, suc, ◌+◌, ◌-◌, ◌<◌, ◌≤◌, Bool, true, false, cond, List, [], ◌∷◌, ◌++◌, length, get_or, set, Some, None, refl, sym, ◌∙◌, ap, arith}
+use Rattle.std.proofs.Common.{◌≡◌, ℕ, zero, suc, ◌+◌, ◌<◌, Bool, false, List, [], ◌∷◌, ◌++◌, length, get_or, set, Some, None, arith}
 use Rattle.std.specs.List.{list_any}
-use Rattle.std.specs.Prelude.{Option, if◌then◌else◌, ◌==◌, not, ◌&&◌, ◌||◌}
+use Rattle.std.specs.Prelude.{Option, ◌==◌, not, ◌&&◌}
 use Rattle.std.proofs.lemmas.Bool.Decides.{nat_tests}
 use Rattle.m3_base.specs.Sums.{total, one, how_many}
-use Rattle.std.proofs.lemmas.List.{get_or_past}
-use Rattle.std.proofs.lemmas.Grind.{common_steps}
 use Rattle.m3_base.specs.declared.message.Message.{Message}
-use Rattle.m3_base.specs.Context.{Kind, Sending, Replying, Reading, Writing, Flying, SendRecord, Fetched, ReceiveRecord, MemoryRecord, Endpoint, Free, Sends, Receives, Reaches, Context, endpoint, with_endpoint}
-use Rattle.m3_base.specs.Receive.{with_unread, with_fetched, fetched_at, unmarked, without_token, with_mark, freed, marking}
+use Rattle.m3_base.specs.Context.{SendRecord, Fetched, ReceiveRecord, Endpoint, Free, Sends, Receives, Reaches, Context}
+use Rattle.m3_base.specs.Receive.{with_unread, with_fetched, fetched_at, without_token, with_mark}
 use Rattle.m3_base.specs.Issue.{less_one}
-use Rattle.m3_base.specs.Land.{one_more, sends_by, more_at, credited, has_send, with_credit, joined}
+use Rattle.m3_base.specs.Land.{one_more, sends_by, credited}
 use Rattle.m3_base.specs.Credit.{is_sent_by, is_owed, queued_at, held_at}
 
 pub total-set : {X : Type 0} (f : X → ℕ) (xs : List X) (i : ℕ) (y d : X) → i < length xs → total f (set xs i y) + f (get_or xs i d) ≡ total f xs + f y

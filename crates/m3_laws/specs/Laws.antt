@@ -1,9 +1,8 @@
 -- The laws of runs with orders.
 use Rattle.std.specs.Prelude.{◌≡◌, ℕ, ◌<◌, ◌==◌, ◌&&◌, Bool, true, false, List, [], ◌∷◌, Option, Some, None}
 use Rattle.m3_base.specs.declared.step.Step.{Step}
-use Rattle.m3_base.specs.declared.setup_line.SetupLine.{SetupLine}
 use Rattle.m3_base.specs.declared.packet.Fresh.{Fresh}
-use Rattle.m3_base.specs.Flight.{kernel, flight}
+use Rattle.m3_base.specs.Flight.{flight}
 use Rattle.m3_base.specs.declared.ids.FlightId.{FlightId}
 use Rattle.m3_base.specs.declared.message.Message.{Message}
 use Rattle.m3_base.specs.declared.packet.Packet.{Packet}
@@ -11,7 +10,7 @@ use Rattle.m3_base.specs.declared.command.Refusal.{Refusal}
 use Rattle.m3_base.specs.Steps.{number_of}
 use Rattle.m3_base.specs.Context.{Context, endpoint}
 use Rattle.m3_base.specs.Land.{grant_of, is_grant, has_send, land_refusal}
-use Rattle.m3_base.specs.State.{Standing, Live, Closing, Grant, State, context_of, grant_in, holder, holder_ep, parent_of, is_done}
+use Rattle.m3_base.specs.State.{Standing, Live, Closing, Grant, State, context_of, grant_in, holder_ep, parent_of, is_done}
 use Rattle.m3_base.specs.Opening.{opening}
 use Rattle.m3_base.specs.Limits.{is_in_limits}
 use Rattle.m3_base.specs.Setup.{SetupValue, IsValid}

@@ -6,14 +6,11 @@ use Rattle.m3_base.specs.declared.packet.Packet.{Packet}
 use Rattle.m3_base.specs.declared.packet.Fresh.{Fresh}
 use Rattle.m3_base.specs.declared.command.Answer.{Answer}
 use Rattle.m3_base.specs.declared.packet.Perm.{Perm}
-use Rattle.m3_base.specs.declared.order.GrantLine.{GrantLine}
-use Rattle.m3_base.specs.declared.step.Step.{Step}
 use Rattle.m3_base.specs.Flight.{kernel, flight, name_of}
 use Rattle.m3_base.specs.Context.{Kind, Sending, Replying, Reading, Writing, Flying, Fetched, Endpoint, Free, Sends, Receives, Reaches, Context, endpoint}
 use Rattle.m3_base.specs.Land.{grant_of, is_grant, flying_at}
 use Rattle.m3_base.specs.State.{Grant, State, holder, holder_ep, grant_in, context_of}
 use Rattle.m3_base.specs.Credit.{covers}
-use Rattle.m3_base.specs.Limits.{is_in_limits}
 use Rattle.m3_base.specs.Fits.{is_message, is_form, is_answer_for}
 
 -- ---- numbers

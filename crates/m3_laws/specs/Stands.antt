@@ -1,6 +1,6 @@
 -- The record that each flying command needs.
 use Rattle.std.specs.Prelude.{◌≡◌, ℕ, true, Option, Some, None}
-use Rattle.m3_base.specs.Context.{Kind, Sending, Replying, Reading, Writing, Flying, Fetched, Endpoint, Free, Sends, Receives, Reaches, Context, endpoint}
+use Rattle.m3_base.specs.Context.{Kind, Sending, Replying, Reading, Writing, Flying, Fetched, Endpoint, Sends, Receives, Reaches, Context, endpoint}
 use Rattle.m3_base.specs.Receive.{fetched_at}
 use Rattle.m3_base.specs.Land.{flying_at}
 
