@@ -24,7 +24,7 @@ pub mod Issued
 pub mod Runs
 pub mod Opened
 pub mod Gone
-pub mod Example
+pub mod Examples
 pub mod Lasting
 pub mod ProperSteps
 pub mod ProperIssue

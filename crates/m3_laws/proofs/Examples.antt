@@ -1,0 +1,79 @@
+-- The laws' terms on worked runs, and why the premise on endpoints is there.
+use Rattle.std.proofs.Common.{◌≡◌, ℕ, List, [], ◌∷◌, true, Option, Some, None, refl, arith}
+use Rattle.m3_base.specs.declared.packet.Perm.{Perm}
+use Rattle.m3_base.specs.declared.packet.Packet.{Packet}
+use Rattle.m3_base.specs.declared.order.GrantLine.{GrantLine}
+use Rattle.m3_base.specs.declared.setup_line.SetupLine.{SetupLine}
+use Rattle.m3_base.specs.declared.command.Command.{Command}
+use Rattle.m3_base.specs.declared.step.Step.{Step}
+use Rattle.m3_base.specs.Flight.{flight}
+use Rattle.m3_base.specs.State.{State, Done, Grant, grant_in}
+use Rattle.m3_base.specs.Credit.{credits, granted_by}
+use Rattle.m3_base.specs.Entries.{after}
+use Rattle.m3_base.specs.Messages.{collect, final, issued_at, landed_at, refused_at, fetched_at, names_of}
+use Rattle.m3_base.specs.Opening.{opening}
+use Rattle.m3_base.specs.Rows.{id, delivery_setup, full_buffer_setup, memory_access_setup, children_first_setup, children_first}
+use Rattle.m3_base.specs.Obeys.{AllObey}
+
+-- a setup of the worked examples obeys
+pub delivery_obeys : AllObey (opening 16 []) delivery_setup
+delivery_obeys = ((refl, omega arith), ((refl, omega arith), ((omega arith, (tt, refl)), ((omega arith, (tt, refl)), tt))))
+
+-- ---- order and credits: of three messages one is refused, and the grant has its two credits
+
+abbrev two_sends : List Step
+two_sends =
+    Step.Issue 0 (Command.Send 0 (1 ∷ []) None)
+    ∷ Step.Land (id 0 1)
+    ∷ Step.Answered (id 0 1)
+    ∷ Step.Issue 0 (Command.Send 1 (2 ∷ []) None)
+    ∷ Step.Land (id 0 2)
+    ∷ Step.Answered (id 0 2)
+    ∷ Step.Issue 0 (Command.Send 1 (3 ∷ []) None)
+    ∷ Step.Land (id 0 3)
+    ∷ Step.Issue 1 (Command.Fetch 0)
+    ∷ Step.Issue 1 (Command.Fetch 0)
+    ∷ []
+
+pub issued_names : names_of (collect (issued_at 3) (opening 16 full_buffer_setup) two_sends) ≡ id 0 2 ∷ id 0 3 ∷ []
+issued_names = refl
+
+pub refused_names : collect (refused_at 3) (opening 16 full_buffer_setup) two_sends ≡ id 0 3 ∷ []
+refused_names = refl
+
+pub landed_names : names_of (collect (landed_at 3) (opening 16 full_buffer_setup) two_sends) ≡ id 0 2 ∷ []
+landed_names = refl
+
+pub fetched_names : names_of (collect (fetched_at 3) (opening 16 full_buffer_setup) two_sends) ≡ id 0 2 ∷ []
+fetched_names = refl
+
+pub its_credits : credits 3 (final (opening 16 full_buffer_setup) two_sends) ≡ 2
+its_credits = refl
+
+-- ---- granted bytes
+
+abbrev one_write : State
+one_write = final (opening 16 memory_access_setup) (Step.Issue 0 (Command.Write 2 15 (255 ∷ [])) ∷ [])
+
+pub write_flies : flight (id 0 1) one_write.flights ≡ Some (Packet.Write (id 0 1) 1 15 (255 ∷ []))
+write_flies = refl
+
+pub write_granted : granted_by 1 15 1 Perm.W (grant_in one_write.grants 1) ≡ true
+write_granted = refl
+
+-- ---- a revoked receive grant: it and both grants under it are done
+
+abbrev stands_at : ℕ → Option Grant
+stands_at g = grant_in (after (opening 16 children_first_setup) children_first).grants g
+
+abbrev is_done_at : Option Grant → Type 0
+is_done_at None = ⊥
+is_done_at (Some x) = x.standing ≡ Done
+
+pub all_done : is_done_at (stands_at 1) × (is_done_at (stands_at 2) × is_done_at (stands_at 3))
+all_done = (refl, (refl, refl))
+
+-- ---- the premise on endpoints: at an endpoint 16 a live grant with limit 2 has no credits
+
+pub outside : credits 2 (opening 16 (SetupLine.Act 0 2 ∷ SetupLine.Act 1 3 ∷ SetupLine.Grant (GrantLine.Recv 1 0 2 16) ∷ SetupLine.Grant (GrantLine.Send 0 16 1 7 2) ∷ [])) ≡ 0
+outside = refl
