@@ -42,3 +42,4 @@ pub mod Past
 pub mod Ordered
 pub mod Shown
 pub mod Fetched
+pub mod Journals

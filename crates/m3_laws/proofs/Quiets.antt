@@ -30,7 +30,8 @@ use Rattle.m3_laws.proofs.Faces.{found_changed}
 use Rattle.m3_laws.proofs.Issued.{data_new}
 use Rattle.m3_laws.proofs.ProperRuns.{granted_flights}
 use Rattle.m3_laws.specs.Laws.{Fits}
-use Rattle.m3_laws.proofs.Invariants.{invariant_step}
+use Rattle.m3_base.specs.Setup.{SetupValue, IsValid}
+use Rattle.m3_laws.proofs.Invariants.{invariant_opening, invariant_step}
 
 abbrev pub QuietNext : Option Next → Type 0
 QuietNext None = Unit {0}
@@ -150,7 +151,7 @@ module _ (s : State) (law : IsLawful s) (quiet : Quiet s) where
 
 -- ---- runs
 
-quiet_keeps : (t : Step) → IsQuietStep t → Fits t
+pub quiet_keeps : (t : Step) → IsQuietStep t → Fits t
 quiet_keeps (Step.Issue a c) q = tt
 quiet_keeps (Step.Await a ep) q = tt
 quiet_keeps (Step.Land id) q = tt
@@ -206,3 +207,6 @@ nothing_flies memory lines = lines_flights (opening memory []) lines
 
 pub quiet_opening : (memory : ℕ) (lines : List SetupLine) → Quiet (opening memory lines)
 quiet_opening memory lines id p e = absurd (let z = ap (flight id) (nothing_flies memory lines) in cc)
+
+pub quiet_invariant_opening : (v : SetupValue) → IsValid v → QuietInvariant (opening v.memory v.lines)
+quiet_invariant_opening v ok = record { law = invariant_opening v ok; quiet = quiet_opening v.memory v.lines }
