@@ -19,6 +19,16 @@ use Rattle.m3_machine.specs.Machine.{Machine, empty_tile, tile_at, link_at}
 use Rattle.m3_machine.specs.At.{at}
 use Rattle.m3_machine.specs.Sound.{is_open, HeldThere, Hypotheses, IsSound, SeatOk, HeldOk}
 use Rattle.m3_merge.specs.Parts.{Each}
+use Rattle.std.specs.Prelude.{Option}
+use Rattle.m3_base.specs.declared.event.Event.{Event}
+use Rattle.m3_base.specs.declared.event.Made.{Made}
+use Rattle.m3_machine.specs.Machine.{Did}
+use Rattle.m3_machine.specs.At.{places_of}
+use Rattle.m3_machine.specs.Refines.{as_places, Refined}
+use Rattle.m3_machine.proofs.Saying.{SaysAs}
+use Rattle.m3_machine.proofs.Sayings.{HasContext, says_of}
+use Rattle.m3_laws.proofs.Quiets.{QuietInvariant}
+use Rattle.m3_laws.proofs.Journals.{FitsEvent, IsQuietEvent, event_keeps, event_keeps_quiet}
 use Rattle.m3_machine.proofs.Popped.{popped_flies}
 use Rattle.m3_machine.proofs.Landing.{current_found}
 use Rattle.m3_machine.proofs.Emitting.{named_target}
@@ -117,3 +127,15 @@ module _ (h : Site) (m : Machine) (sound : IsSound h m) (law : Invariant (at m))
 -- while no Install and no Close flies
 pub quiet_hypotheses : (h : Site) (m : Machine) → IsSound h m → Invariant (at m) → Quiet (at m) → Hypotheses m
 quiet_hypotheses h m sound law quiet = hypotheses h m sound law (quiet_lands m quiet)
+
+-- ---- each event keeps the invariant
+
+module _ (h : Site) (m : Machine) (e : Event) (made : Option Made) (d : Did) (k : HasContext (at m) e) (refined : Refined h m e made (Some d)) where
+  says : SaysAs (at m) e made (Some (as_places h d))
+  says = subst (SaysAs (at m) e made) refined.0 (says_of (at m) (places_of h m) e made k)
+
+  pub law_kept : FitsEvent e → Invariant (at m) → Invariant (at d.machine)
+  law_kept p law = subst Invariant says.1 (event_keeps (at m) e (record { made = made; said = d.outcome.said; restore = d.outcome.restore }) p law)
+
+  pub quiet_kept : IsQuietEvent e → QuietInvariant (at m) → QuietInvariant (at d.machine)
+  quiet_kept q inv = subst QuietInvariant says.1 (event_keeps_quiet (at m) e (record { made = made; said = d.outcome.said; restore = d.outcome.restore }) q inv)
