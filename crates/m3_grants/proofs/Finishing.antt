@@ -1,16 +1,16 @@
 -- The tree stays right as a grant is done.
-use Rattle.std.proofs.Common.{cond, ◌≡◌, ◌≢◌, ℕ, zero, suc, ◌+◌, ◌-◌, ◌*◌, ◌<◌, ◌≤◌, Bool, true, false, List, [], ◌∷◌, length, Some, None, refl, sym, ◌∙◌, ap, subst, arith, get_or, set, length-set, get_or-set_same, get_or-set_other}
+use Rattle.std.proofs.Common.{cond, ◌≡◌, ◌≢◌, ℕ, ◌+◌, ◌-◌, ◌*◌, ◌<◌, Bool, true, false, List, length, Some, None, refl, sym, ◌∙◌, ap, subst, arith, get_or, set, length-set, get_or-set_same, get_or-set_other}
 use Rattle.std.specs.Prelude.{Option, if◌then◌else◌, ◌==◌, slice_get, slice_set, count_by}
 use Rattle.std.proofs.lemmas.List.Sums.{sum_by-set}
 use Rattle.std.proofs.lemmas.Option.{slice_get_within, get_or_from_slice_get}
 use Rattle.std.proofs.lemmas.Bool.Decides.{nat_tests}
 use Rattle.m3_base.specs.State.{Done, Grant, grant_in, parent_of, holder, holder_ep, is_number, is_done, is_live}
-use Rattle.m3_base.specs.Grants.{holds_at, is_open_child, change_grant}
+use Rattle.m3_base.specs.Grants.{is_open_child, change_grant}
 use Rattle.m3_grants.specs.declared.node.Node.{Node}
 use Rattle.m3_grants.specs.Tree.{holds_in, with_done, is_sent_in, is_undone_in}
 use Rattle.m3_grants.specs.Nodes.{as_grant, grants_of, grant_of, IsTree, IsRange, Counts, with_node, under_parent, one_less, done_node, is_before, is_rightful, is_some_number, has_child, has_child_under}
 use Rattle.m3_grants.proofs.Lookups.{found, get_with_node, length_with_node, on_node, grants_changed, is_child_in, child_counts}
-use Rattle.m3_grants.proofs.Alike.{Alike, alike_same, range_alike, Keeps, keeps_same, rightful_kept}
+use Rattle.m3_grants.proofs.Alike.{Keeps, keeps_same, rightful_kept}
 use Rattle.m3_grants.proofs.Sending.{get_changed, counts_changed}
 use Rattle.m3_grants.proofs.Making.{grants_under, length_under}
 

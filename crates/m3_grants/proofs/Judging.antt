@@ -1,8 +1,7 @@
 -- Why a line is refused.
-use Rattle.std.proofs.Common.{◌≡◌, ℕ, ◌+◌, Bool, true, false, ◌||◌, List, length, Some, None, refl, sym, ◌∙◌, arith}
-use Rattle.std.specs.Prelude.{Option, if◌then◌else◌, nat_le, is_none, count_by}
+use Rattle.std.proofs.Common.{◌≡◌, ℕ, ◌+◌, Bool, false, ◌||◌, List, length, Some, None, refl, arith}
+use Rattle.std.specs.Prelude.{Option, if◌then◌else◌, nat_le, is_none}
 use Rattle.std.specs.List.{list_any}
-use Rattle.std.proofs.lemmas.Bool.Decides.{nat_tests}
 use Rattle.m3_base.specs.declared.event.No.{No}
 use Rattle.m3_base.specs.declared.order.GrantLine.{GrantLine}
 use Rattle.m3_base.specs.State.{Grant, holder, holder_ep, parent_of, parent_in, undone}

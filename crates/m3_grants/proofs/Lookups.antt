@@ -1,12 +1,11 @@
 -- The nodes and the list of grants that they stand for.
-use Rattle.std.proofs.Common.{cond, ◌≡◌, ℕ, zero, suc, ◌+◌, ◌-◌, ◌*◌, ◌<◌, ◌≤◌, Bool, true, false, List, [], ◌∷◌, ◌++◌, length, drop, Some, None, refl, sym, ◌∙◌, ap, subst, arith, map}
+use Rattle.std.proofs.Common.{cond, ◌≡◌, ℕ, zero, suc, ◌+◌, ◌-◌, ◌<◌, ◌≤◌, Bool, true, false, List, [], ◌∷◌, length, Some, None, refl, sym, ◌∙◌, ap, subst, arith}
 use Rattle.std.specs.Prelude.{Option, if◌then◌else◌, ◌==◌, slice_get, slice_set, slice_index_or, is_some, count_by}
 use Rattle.std.specs.List.{list_any}
 use Rattle.std.proofs.lemmas.List.Sums.{sum_by-cons}
-use Rattle.std.proofs.lemmas.Option.{slice_get_past, slice_get_within}
 use Rattle.std.proofs.lemmas.Bool.Decides.{nat_tests}
 use Rattle.m3_base.specs.State.{Grant, grant_in, is_number}
-use Rattle.m3_base.specs.Grants.{is_open_child, may_close, change_grant, set_some, holds_at}
+use Rattle.m3_base.specs.Grants.{is_open_child, may_close, change_grant, holds_at}
 use Rattle.m3_base.specs.Places.{least_closing}
 use Rattle.m3_grants.specs.declared.node.Node.{Node}
 use Rattle.m3_grants.specs.declared.node.Stage.{Stage}

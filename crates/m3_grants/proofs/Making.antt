@@ -1,5 +1,5 @@
 -- The tree stays right as a grant is made.
-use Rattle.std.proofs.Common.{cond, ◌≡◌, ◌≢◌, ℕ, zero, suc, ◌+◌, ◌-◌, ◌*◌, ◌<◌, ◌≤◌, Bool, true, false, ◌&&◌, ◌||◌, List, [], ◌∷◌, ◌++◌, length, Some, None, refl, sym, ◌∙◌, ap, subst, arith, get_or, set, length-set, get_or-set_same, get_or-set_other}
+use Rattle.std.proofs.Common.{cond, ◌≡◌, ◌≢◌, ℕ, zero, suc, ◌+◌, ◌-◌, ◌*◌, ◌<◌, ◌≤◌, Bool, true, false, ◌||◌, List, [], ◌∷◌, ◌++◌, length, Some, None, refl, sym, ◌∙◌, ap, subst, arith, get_or, set, length-set, get_or-set_same, get_or-set_other}
 use Rattle.std.specs.Prelude.{Option, if◌then◌else◌, ◌==◌, nat_le, slice_get, count_by, is_none}
 use Rattle.std.specs.List.{list_any}
 use Rattle.std.proofs.lemmas.List.Sums.{sum_by_push, count_by-le-length}
@@ -13,8 +13,8 @@ use Rattle.m3_base.specs.Grants.{form, new_grant, holds_at, is_open_child, is_ou
 use Rattle.m3_grants.specs.declared.node.Node.{Node}
 use Rattle.m3_grants.specs.declared.node.Stage.{Stage}
 use Rattle.m3_grants.specs.Tree.{holds_in, above, is_live_in}
-use Rattle.m3_grants.specs.Nodes.{as_grant, grants_of, IsTree, IsRange, Counts, FitsIn, FitsUnder, size_of, with_node, with_found, under_parent, one_more, is_before, is_live_above, is_rightful, is_some_number, has_room, has_room_under}
-use Rattle.m3_grants.proofs.Lookups.{found, length_grants, get_with_node, length_with_node, on_node}
+use Rattle.m3_grants.specs.Nodes.{as_grant, grants_of, IsTree, IsRange, Counts, FitsIn, FitsUnder, size_of, with_found, under_parent, one_more, is_before, is_live_above, is_rightful, is_some_number, has_room, has_room_under}
+use Rattle.m3_grants.proofs.Lookups.{length_grants, get_with_node, length_with_node, on_node}
 
 -- ---- what is known of a line that isn't refused
 

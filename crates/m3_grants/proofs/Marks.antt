@@ -1,6 +1,6 @@
 -- The marks of a subtree: a grant is marked where it is the root or its parent is marked.
 use Rattle.std.proofs.Common.{◌≡◌, ℕ, zero, suc, ◌+◌, ◌-◌, ◌<◌, ◌≤◌, Bool, true, false, ◌||◌, List, [], ◌∷◌, ◌++◌, length, Some, None, refl, sym, ◌∙◌, ap, subst, arith}
-use Rattle.std.specs.Prelude.{Option, if◌then◌else◌, ◌==◌, slice_get}
+use Rattle.std.specs.Prelude.{Option, ◌==◌, slice_get}
 use Rattle.std.proofs.lemmas.Bool.Decides.{nat_tests}
 use Rattle.m3_base.specs.State.{Grant, parent_of}
 use Rattle.m3_base.specs.Grants.{marks_under, is_marked, or_false}

@@ -1,14 +1,13 @@
 -- The grants of a setup's lines, one line after the other.
-use Rattle.std.proofs.Common.{◌≡◌, ◌≢◌, ℕ, zero, suc, ◌+◌, ◌-◌, ◌<◌, Bool, true, false, ◌||◌, List, [], ◌∷◌, ◌++◌, length, drop, Some, None, refl, sym, ◌∙◌, ap, subst, arith, get_or}
+use Rattle.std.proofs.Common.{◌≡◌, ℕ, zero, suc, ◌+◌, ◌-◌, ◌<◌, Bool, true, false, ◌||◌, List, [], ◌∷◌, length, drop, Some, None, refl, sym, ◌∙◌, ap, subst, arith, get_or}
 use Rattle.std.specs.Prelude.{Option, if◌then◌else◌, ◌==◌, not, slice_get, is_some}
-use Rattle.std.proofs.lemmas.Bool.Decides.{nat_tests}
 use Rattle.m3_base.specs.declared.packet.Fresh.{Fresh}
 use Rattle.m3_base.specs.declared.order.GrantLine.{GrantLine}
 use Rattle.m3_base.specs.declared.setup_line.SetupLine.{SetupLine}
-use Rattle.m3_base.specs.State.{Grant, grant_in, parent_in, parent_of, undone, holder, is_live, is_done}
+use Rattle.m3_base.specs.State.{Grant, grant_in, parent_in, parent_of, undone, holder, is_done}
 use Rattle.m3_base.specs.Grants.{form, new_grant, make_refusal}
 use Rattle.m3_base.specs.Limits.{is_in_limits}
-use Rattle.m3_base.specs.Setup.{SetupValue, Facts, IsValid, AllKept, facts_of, all_noted, noted, refuses, no_lines, is_undeclared, with_grant, grant_added}
+use Rattle.m3_base.specs.Setup.{SetupValue, Facts, IsValid, AllKept, facts_of, all_noted, noted, no_lines, is_undeclared, with_grant, grant_added}
 use Rattle.m3_grants.specs.Tree.{GrantTree, above, with_made, Allows, after_line}
 use Rattle.m3_grants.proofs.Lookups.{tree_of}
 use Rattle.m3_grants.proofs.Making.{get_pushed}

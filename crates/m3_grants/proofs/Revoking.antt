@@ -1,15 +1,15 @@
 -- A revoke, grant after grant, closes what is marked.
-use Rattle.std.proofs.Common.{◌≡◌, ℕ, zero, suc, ◌+◌, ◌-◌, ◌<◌, ◌≤◌, Bool, true, false, ◌&&◌, ◌||◌, List, [], ◌∷◌, ◌++◌, length, Some, None, refl, sym, ◌∙◌, ap, subst, arith}
-use Rattle.std.specs.Prelude.{Option, if◌then◌else◌, ◌==◌, nat_lt, not, slice_get, slice_set}
-use Rattle.std.proofs.lemmas.Option.{slice_get_past, slice_get_within}
+use Rattle.std.proofs.Common.{◌≡◌, ℕ, zero, suc, ◌+◌, ◌-◌, ◌<◌, ◌≤◌, Bool, true, false, ◌&&◌, ◌||◌, List, [], ◌∷◌, length, Some, None, refl, sym, ◌∙◌, ap, subst, arith}
+use Rattle.std.specs.Prelude.{Option, if◌then◌else◌, ◌==◌, nat_lt, slice_get, slice_set}
+use Rattle.std.proofs.lemmas.Option.{slice_get_past}
 use Rattle.std.proofs.lemmas.Bool.Decides.{nat_tests}
-use Rattle.m3_base.specs.State.{Standing, Live, Closing, Grant, grant_in, undone, parent_of, is_live, is_done}
+use Rattle.m3_base.specs.State.{Standing, Grant, grant_in, undone, parent_of, is_live}
 use Rattle.m3_base.specs.Grants.{is_marked, or_false, to_closing, closing_where, revoked, change_grant}
 use Rattle.m3_grants.specs.declared.node.Node.{Node}
 use Rattle.m3_grants.specs.declared.node.Stage.{Stage}
 use Rattle.m3_grants.specs.Tree.{is_live_in}
 use Rattle.m3_grants.specs.Nodes.{as_grant, grants_of, grant_of, standing_of, IsTree, Counts, with_node, root_node, is_before, is_live_above, is_rightful, is_live_stage, close_if, close_where, is_closing_node, is_under_closing, is_reached, close_next, AllRightful}
-use Rattle.m3_grants.proofs.Lookups.{found, get_with_node, length_with_node, on_node, grants_changed, length_grants}
+use Rattle.m3_grants.proofs.Lookups.{found, get_with_node, length_with_node, on_node, grants_changed}
 use Rattle.m3_grants.proofs.Alike.{Alike, alike_same, Keeps, keeps_same, rightful_kept, tree_alike, by_number}
 use Rattle.m3_grants.proofs.Sending.{get_changed, counts_changed}
 use Rattle.m3_grants.proofs.Marks.{marks_of, mark, mark_is}

@@ -2,12 +2,11 @@
 use Rattle.std.specs.Prelude.{◌≡◌, ℕ, ◌+◌, ◌-◌, ◌*◌, ◌<◌, ◌≤◌, Bool, true, false, not, ◌&&◌, ◌||◌, ◌==◌, nat_le, nat_lt, if◌then◌else◌, List, [], ◌∷◌, length, map, count_by, slice_index_or, slice_get, slice_set, Option, Some, None}
 use Rattle.m3_base.specs.declared.order.GrantLine.{GrantLine}
 use Rattle.m3_base.specs.declared.packet.Fresh.{Fresh}
-use Rattle.m3_base.specs.declared.packet.Perm.{Perm}
-use Rattle.m3_base.specs.State.{Standing, Live, Closing, Done, Grant, grant_in, parent_of, is_live, is_number, undone}
-use Rattle.m3_base.specs.Grants.{form, is_open_child, is_outside, is_more}
+use Rattle.m3_base.specs.State.{Standing, Live, Closing, Done, Grant, grant_in, parent_of, is_live, is_number}
+use Rattle.m3_base.specs.Grants.{is_open_child}
 use Rattle.m3_grants.specs.declared.node.Stage.{Stage}
 use Rattle.m3_grants.specs.declared.node.Node.{Node}
-use Rattle.m3_grants.specs.Tree.{holds_in, is_live_in, fresh_in}
+use Rattle.m3_grants.specs.Tree.{holds_in, is_live_in}
 
 abbrev pub standing_of : Stage → Standing
 standing_of Stage.Live = Live

@@ -1,4 +1,4 @@
-use Rattle.std.proofs.Common.{ap, refl, ◌≡◌, ◌∙◌, sym, arith, Some, slice_get, ◌&&◌, false, get_or, ◌<◌, length}
+use Rattle.std.proofs.Common.{ap, refl, ◌≡◌, ◌∙◌, sym, arith, Some, slice_get, ◌&&◌, false, ◌<◌, length}
 use Rattle.std.proofs.lemmas.Option.{slice_get_read}
 use Rattle.m3_base.specs.State.{parent_of}
 use Rattle.m3_grants.specs.Nodes.{is_reached, is_live_stage}

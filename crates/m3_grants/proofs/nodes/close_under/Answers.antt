@@ -1,4 +1,4 @@
-use Rattle.std.proofs.Common.{refl, arith, ◌≡◌, ◌∙◌, length, ◌≤◌}
+use Rattle.std.proofs.Common.{refl, arith, length, ◌≤◌}
 use Rattle.m3_grants.proofs.Revoking.{reached_none, reached_next, reached_all}
 use Rattle.m3_grants.proofs.nodes.close_under.Goals as goal
 

@@ -1,6 +1,6 @@
-use Rattle.std.proofs.Common.{arith, ◌+◌, ◌*◌, ◌<◌, ◌≡◌, ◌∷◌, ◌++◌, [], Some, None, List, Option, length, true, set, subst, sym, ◌∙◌, ap}
-use Rattle.m3_base.specs.State.{Grant, parent_in, parent_of, holder, holder_ep, undone}
-use Rattle.m3_base.specs.Grants.{make_refusal, form, new_grant}
+use Rattle.std.proofs.Common.{arith, ◌+◌, ◌*◌, ◌<◌, ◌≡◌, ◌∷◌, ◌++◌, [], Some, None, length, true, set, subst, sym, ◌∙◌, ap}
+use Rattle.m3_base.specs.State.{parent_in, parent_of, holder, holder_ep, undone}
+use Rattle.m3_base.specs.Grants.{make_refusal, form}
 use Rattle.m3_base.specs.Setup.{with_grant}
 use Rattle.m3_grants.specs.Tree.{GrantTree, above, with_made}
 use Rattle.m3_grants.specs.Nodes.{IsTree, grants_of, grant_of, under_parent, one_more, has_room_under, StandsAbove}

@@ -1,8 +1,7 @@
-use Rattle.std.proofs.Common.{refl, arith, ◌+◌, ◌-◌, ◌*◌, ◌<◌, ◌≡◌, Some, None, List, Option, true, false, set, subst, sym, ◌∙◌, ap, ℕ}
-use Rattle.std.specs.Prelude.{slice_get}
-use Rattle.m3_base.specs.State.{Grant, grant_in, parent_of, holder, holder_ep, is_done}
+use Rattle.std.proofs.Common.{refl, arith, ◌+◌, ◌-◌, ◌*◌, ◌<◌, ◌≡◌, Some, None, true, set, subst, ◌∙◌, ap}
+use Rattle.m3_base.specs.State.{grant_in, parent_of, holder, holder_ep}
 use Rattle.m3_grants.specs.Tree.{GrantTree, is_sent_in, is_undone_in, with_done}
-use Rattle.m3_grants.specs.Nodes.{as_grant, IsTree, grants_of, has_child_under, with_node, under_parent, one_less, done_node, is_rightful}
+use Rattle.m3_grants.specs.Nodes.{as_grant, IsTree, grants_of, has_child_under, is_rightful}
 use Rattle.m3_grants.proofs.Lookups.{tree_of}
 use Rattle.m3_grants.proofs.Finishing.{tree_done, child_under, before_of, finished, grants_done, IsThere, there_is}
 use Rattle.m3_grants.proofs.grants.Grants.closed.Goals as goal

@@ -1,6 +1,6 @@
-use Rattle.std.proofs.Common.{arith, ◌≡◌, ◌∙◌, ap, ℕ, ◌+◌, ◌*◌, ◌<◌, List, Option, Some, None, slice_get, is_some, subst, get_or, length, true, sym}
+use Rattle.std.proofs.Common.{arith, ◌≡◌, ◌∙◌, ap, ℕ, ◌+◌, ◌*◌, None, slice_get, is_some, subst, get_or, true, sym}
 use Rattle.std.specs.List.{list_any}
-use Rattle.m3_base.specs.State.{Grant, is_number}
+use Rattle.m3_base.specs.State.{is_number}
 use Rattle.m3_base.specs.Grants.{holds_at}
 use Rattle.m3_grants.specs.Tree.{GrantTree, holds_in, IsHeld}
 use Rattle.m3_grants.specs.Nodes.{grants_of, is_some_number}

@@ -1,7 +1,5 @@
-use Rattle.std.proofs.Common.{◌≡◌, ◌+◌, drop, subst, refl, sym, ap, ◌∙◌, ◌∷◌, [], List}
+use Rattle.std.proofs.Common.{◌≡◌, ◌+◌, drop, subst, ap, ◌∙◌, ◌∷◌, []}
 use Rattle.std.proofs.lemmas.List.{drop_all}
-use Rattle.m3_base.specs.declared.setup_line.SetupLine.{SetupLine}
-use Rattle.m3_grants.specs.Tree.{GrantTree}
 use Rattle.m3_grants.proofs.Lookups.{tree_of}
 use Rattle.m3_grants.proofs.Opening.{SoFar, so_far_none, so_far_allows, so_far_next, so_far_all, drop_next}
 use Rattle.m3_grants.proofs.grants.Grants.new.Goals as goal

@@ -1,5 +1,4 @@
-use Rattle.std.proofs.Common.{◌≡◌, ◌∙◌, ap, subst, List}
-use Rattle.m3_base.specs.State.{Grant}
+use Rattle.std.proofs.Common.{◌≡◌, ◌∙◌, ap, subst}
 use Rattle.m3_base.specs.Places.{least_closing}
 use Rattle.m3_grants.specs.Tree.{GrantTree, IsChildless}
 use Rattle.m3_grants.specs.Nodes.{grants_of, first_due}

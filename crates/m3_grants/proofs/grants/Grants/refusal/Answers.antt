@@ -1,5 +1,5 @@
 use Rattle.std.proofs.Common.{◌≡◌, ◌∙◌, true, sym, ap, subst, ◌+◌, ◌||◌, false, length}
-use Rattle.std.specs.Prelude.{is_none, nat_le, is_some}
+use Rattle.std.specs.Prelude.{is_none, nat_le}
 use Rattle.std.specs.List.{list_any}
 use Rattle.m3_base.specs.State.{undone, parent_in, parent_of, holder, holder_ep}
 use Rattle.m3_base.specs.Grants.{form, fresh_of, is_above_closing, is_outside, is_more, is_crowded, holds_at}

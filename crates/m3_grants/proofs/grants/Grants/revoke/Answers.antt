@@ -1,8 +1,7 @@
-use Rattle.std.proofs.Common.{arith, ◌+◌, ◌-◌, ◌<◌, ◌≡◌, [], Some, None, Option, List, subst, sym, refl, ◌∙◌, ap}
-use Rattle.m3_base.specs.State.{Grant, grant_in, undone}
+use Rattle.std.proofs.Common.{◌-◌, ◌<◌, ◌≡◌, subst, ◌∙◌, ap}
 use Rattle.m3_base.specs.Grants.{revoked}
 use Rattle.m3_grants.specs.Tree.{GrantTree}
-use Rattle.m3_grants.specs.Nodes.{IsTree, grants_of, as_grant, with_node, root_node, close_where}
+use Rattle.m3_grants.specs.Nodes.{grants_of, as_grant, with_node, root_node, close_where}
 use Rattle.m3_grants.proofs.Lookups.{tree_of}
 use Rattle.m3_grants.proofs.Marks.{marks_of}
 use Rattle.m3_grants.proofs.Revoking.{tree_revoked, grants_revoked, some_undone}

@@ -1,5 +1,4 @@
-use Rattle.std.proofs.Common.{true, ◌≡◌, ℕ, ◌+◌, ◌-◌, ◌<◌, ◌≤◌, Some, subst, sym, refl, ap, ◌∙◌, arith}
-use Rattle.m3_base.specs.State.{Grant}
+use Rattle.std.proofs.Common.{true, ◌≡◌, ◌-◌, ◌<◌, Some, subst, refl, ap, ◌∙◌, arith}
 use Rattle.m3_base.specs.Places.{least_closing}
 use Rattle.m3_grants.specs.Tree.{GrantTree, with_sent}
 use Rattle.m3_grants.specs.Nodes.{grants_of, IsTree, with_node, sent_node}
