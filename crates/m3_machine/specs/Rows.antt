@@ -100,7 +100,7 @@ order_of_refusals_machine = record { opens = refl; stands = refl; says = refl; s
 pub refused_grants_machine : Row 16 [] refused_grants_setup refused_grants
 refused_grants_machine = record { opens = refl; stands = refl; says = refl; says_at = refl }
 
--- ---- row 20, by the driver
+-- ---- the events that the driver chooses
 
 pub record Driving : Type 0 where
   pub machine : Machine
