@@ -131,7 +131,7 @@ quiet_hypotheses h m sound law quiet = hypotheses h m sound law (quiet_lands m q
 -- ---- each event keeps the invariant
 
 module _ (h : Site) (m : Machine) (e : Event) (made : Option Made) (d : Did) (k : HasContext (at m) e) (refined : Refined h m e made (Some d)) where
-  says : SaysAs (at m) e made (Some (as_places h d))
+  pub says : SaysAs (at m) e made (Some (as_places h d))
   says = subst (SaysAs (at m) e made) refined.0 (says_of (at m) (places_of h m) e made k)
 
   pub law_kept : FitsEvent e → Invariant (at m) → Invariant (at d.machine)

@@ -13,6 +13,7 @@ pub mod Homes
 pub mod Links
 pub mod Low
 pub mod Whole
+pub mod Kept
 pub mod Parcels
 pub mod Telling
 pub mod TileView

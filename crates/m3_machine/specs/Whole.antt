@@ -85,6 +85,17 @@ IsUnserved m (Event.Do a c) = ⊥
 IsUnserved m (Event.Take to from) = HasParcel (link_at from to m) × (2 ≤ to → IsData (link_at from to m) → ⊥)
 IsUnserved m event = Unit {0}
 
+abbrev pub ServesLink : ℕ → List Parcel → Type 0
+ServesLink to [] = Unit {0}
+ServesLink to (Data p ∷ ps) = 2 ≤ to
+ServesLink to (q ∷ ps) = ⊥
+
+-- the machine of today makes commands, and takes of nothing and of data for tiles from 2 on
+abbrev pub IsServed : Machine → Event → Type 0
+IsServed m (Event.Do a c) = Unit {0}
+IsServed m (Event.Take to from) = ServesLink to (link_at from to m)
+IsServed m event = ⊥
+
 abbrev pub IsNamedAt : FlightId → List Parcel → Type 0
 IsNamedAt id [] = ⊥
 IsNamedAt id (Data p ∷ ps) = name_of p ≡ id

@@ -7,7 +7,7 @@ ghost use Rattle.m3_machine.specs.declared.machine.StepRefusal.{StepRefusal};
 ghost use Rattle.m3_machine.specs.Links.{place, lists_in, pushed, HasRoom};
 ghost use Rattle.m3_machine.specs.Naming.{is_home};
 ghost use Rattle.m3_machine.specs.Parcels.{parcels_of, out_of};
-ghost use Rattle.m3_machine.specs.Whole.{site, entry, out_links, HasRoomFor, IsOfSetup, IsUnserved, HasFront, Steps};
+ghost use Rattle.m3_machine.specs.Whole.{site, entry, out_links, HasRoomFor, IsOfSetup, IsServed, IsUnserved, HasFront, Steps};
 
 use crate::audit::{credit_lines, tile_lines};
 use crate::links::{Front, Links};
@@ -133,6 +133,7 @@ impl Machine {
     pub fn step(&mut self, alloc: Global, event: Event) -> Result<(), StepRefusal>
         requires { IsOfSetup (site self.old.setup) event }
         ensures ok { OnOk result (Steps self.old event self.new) }
+        ensures served { OnOk result (IsServed self.old.machine event) }
         ensures err { OnErr result (self.new ≡ self.old) }
         ensures spent { result ≡ Err StepRefusal.Spent ↔ length self.old.entries ≡ 2097152 }
         ensures unserved { result ≡ Err StepRefusal.Unserved → IsUnserved self.old.machine event }
@@ -175,6 +176,7 @@ impl Machine {
     fn take(&mut self, to: TileId, from: TileId) -> Result<(), StepRefusal>
         requires room { length self.old.entries < 2097152 }
         ensures ok { OnOk result (Steps self.old (Event.Take to from) self.new) }
+        ensures served { OnOk result (IsServed self.old.machine (Event.Take to from)) }
         ensures err { OnErr result (self.new ≡ self.old) }
         ensures memory { IfErr result (λ e. e ≢ StepRefusal.Spent) }
         ensures unserved { result ≡ Err StepRefusal.Unserved → IsUnserved self.old.machine (Event.Take to from) }
@@ -197,6 +199,7 @@ impl Machine {
         requires high { 2 ≤ to }
         requires front { HasFront self.old.machine from to id }
         ensures ok { OnOk result (Steps self.old (Event.Take to from) self.new) }
+        ensures served { OnOk result (IsServed self.old.machine (Event.Take to from)) }
         ensures err { OnErr result (self.new ≡ self.old) }
         ensures memory { IfErr result (λ e. e ≡ StepRefusal.NoMemory) }
     {

@@ -1,0 +1,29 @@
+-- What holds of the machine between any two steps, and what a step of it means.
+use Rattle.std.specs.Prelude.{◌≡◌, ℕ, ◌<◌, Some, None}
+use Rattle.m3_base.specs.declared.event.Event.{Event}
+use Rattle.m3_base.specs.declared.event.Entry.{Entry}
+use Rattle.m3_base.specs.Entries.{Says, next_state}
+use Rattle.m3_base.specs.PlaceSteps.{Moves}
+use Rattle.m3_laws.proofs.Quiets.{QuietInvariant}
+use Rattle.m3_machine.specs.Parts.{Site}
+use Rattle.m3_machine.specs.Machine.{Machine}
+use Rattle.m3_machine.specs.At.{at, places_of}
+use Rattle.m3_machine.specs.Sound.{IsSound}
+
+-- its places are in order, and its ideal state keeps the ideal machine's invariant
+pub record IsKept (h : Site) (m : Machine) : Type 0 where
+  pub sound : IsSound h m
+  pub law : QuietInvariant (at m)
+
+-- the tiles of a take
+abbrev pub IsWithin : Event → Type 0
+IsWithin (Event.Take to from) = (to < 16) × (from < 16)
+IsWithin event = Unit {0}
+
+-- the entry says what its ideal steps say, they lead to the state that the machine then stands for, and its places move
+-- as theirs do
+pub record Means (h : Site) (old : Machine) (e : Entry) (new : Machine) : Type 0 where
+  pub says : Says (at old) e
+  pub reaches : next_state (at old) e ≡ at new
+  pub moves : Moves (at old) (places_of h old) e.event e.outcome (places_of h new)
+  pub kept : IsKept h new
