@@ -20,3 +20,4 @@ pub mod TileView
 pub mod Progress
 pub mod Aims
 pub mod Table
+pub mod Seated
