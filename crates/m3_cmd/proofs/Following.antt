@@ -1,34 +1,86 @@
 -- A machine's journal follows the events that it makes.
-use Rattle.std.proofs.Common.{◌≡◌, false, List, [], get_or, ◌∷◌, ◌++◌, map, append_assoc, ap, ◌∙◌}
+use Rattle.std.proofs.Common.{◌≡◌, ℕ, ◌<◌, ◌≤◌, Bool, true, false, List, [], get_or, ◌∷◌, ◌++◌, length, map, append_assoc, append-nil, Some, None, refl, sym, ap, ◌∙◌, subst, arith}
+use Rattle.std.specs.Prelude.{not, ◌&&◌, nat_lt}
+use Rattle.std.proofs.lemmas.Bool.Decides.{nat_tests}
 use Rattle.std.proofs.lemmas.List.{map-append}
 use Rattle.std.proofs.lemmas.List.Elements.{All-tail}
 use Rattle.m3_base.specs.declared.event.Event.{Event}
-use Rattle.m3_base.specs.Setup.{SetupValue, IsValid}
-use Rattle.m3_machine.specs.Whole.{Whole, Steps, entry, site, IsOfSetup}
+use Rattle.m3_base.specs.declared.event.Entry.{Entry}
+use Rattle.m3_base.specs.State.{State}
+use Rattle.m3_base.specs.Places.{Places, opening_places}
+use Rattle.m3_base.specs.Entries.{IsRun}
+use Rattle.m3_base.specs.Opening.{opening}
+use Rattle.m3_base.specs.Setup.{SetupValue, IsValid, is_machine}
+use Rattle.m3_machine.specs.At.{at, places_of}
+use Rattle.m3_machine.specs.Kept.{IsKept, IsWithin, PlacesMove}
+use Rattle.m3_machine.specs.Whole.{Whole, Steps, entry, site, opened, opened_whole, IsServed, IsOfSetup as HasAct}
+use Rattle.m3_machine.specs.Machine.{mstep}
 use Rattle.m3_machine.proofs.Contexts.{first_free}
 use Rattle.m3_machine.proofs.Declared.{declared_home}
+use Rattle.m3_machine.proofs.Kept.{means}
+use Rattle.m3_machine.proofs.Runs.{none_ran, more_ran}
+use Rattle.m3_machine.proofs.Valid.{opens_as}
 use Rattle.m3_script.specs.Rules.{AllNamed, misses, is_absent, has_program}
-use Rattle.m3_cmd.specs.Statuses.{AreOfSetup, Follows, event_of}
+use Rattle.m3_journal.specs.Texts.{journal_text}
+use Rattle.m3_cmd.specs.Statuses.{IsOfSetup, AreOfSetup, Follows, IsTextAt, IsTextOf, event_of}
 
-pub one_made : (old mid new : Whole) (es : List Event) (e : Event) → Follows old es mid → Steps mid e new → Follows old (es ++ e ∷ []) new
-one_made old mid new es e f s = record {
-  same = s.setup ∙ f.same;
-  added = ap (map event_of) s.added ∙ map-append event_of mid.entries (entry e s.outcome ∷ []) ∙ ap (λ l. l ++ e ∷ []) f.added ∙ append_assoc (map event_of old.entries) es (e ∷ []);
-}
+pub none_made : (m : Whole) → IsKept (site m.setup) m.machine → Follows m [] m
+none_made m kept = record { same = refl; made = []; added = sym (append-nil m.entries); follows = refl; ran = none_ran (site m.setup) m.machine kept }
+
+pub one_made : (old mid new : Whole) (es : List Event) (e : Event) → Follows old es mid → Steps mid e new → IsServed mid.machine e → IsOfSetup old.setup e → Follows old (es ++ e ∷ []) new
+one_made old mid new es e f s served own =
+    let step = subst (λ (x : SetupValue). mstep (site x) mid.machine e None ≡ Some (record { outcome = s.outcome; machine = new.machine })) f.same s.moved in
+    record {
+      same = s.setup ∙ f.same;
+      made = f.made ++ entry e s.outcome ∷ [];
+      added = s.added ∙ ap (λ l. l ++ entry e s.outcome ∷ []) f.added ∙ append_assoc old.entries f.made (entry e s.outcome ∷ []);
+      follows = map-append event_of f.made (entry e s.outcome ∷ []) ∙ ap (λ l. l ++ e ∷ []) f.follows;
+      ran =
+          more_ran (site old.setup) old.machine mid.machine new.machine f.made (entry e s.outcome) f.ran (
+          means (site old.setup) mid.machine e s.outcome new.machine step f.ran.kept own.0 own.1 served
+          );
+    }
 
 pub others_of : (s : SetupValue) (e : Event) (es : List Event) → AreOfSetup s (e ∷ es) → AreOfSetup s es
-others_of s e es are = All-tail (IsOfSetup (site s)) e es are
+others_of s e es are = All-tail (IsOfSetup s) e es are
+
+pub first_of : (s : SetupValue) (e : Event) (es : List Event) → AreOfSetup s (e ∷ es) → IsOfSetup s e
+first_of s e es are = are 0 e (omega arith)
 
 -- ---- what a script names is of its setup
 
-named_one : (s : SetupValue) → IsValid s → (e : Event) → misses e s ≡ false → IsOfSetup (site s) e
-named_one s v (Event.Do a c) e = declared_home s v a (first_free (is_absent a s) (has_program a s) e)
-named_one s v (Event.Turn a) e = tt
-named_one s v (Event.Take to from) e = tt
-named_one s v (Event.Tend a) e = tt
-named_one s v Event.Close e = tt
-named_one s v (Event.Order o) e = tt
-named_one s v (Event.File l) e = tt
+below : (to from n : ℕ) → n ≤ 16 → not (nat_lt to n && nat_lt from n) ≡ false → (to < 16) × (from < 16)
+below to from n few e = (grind (arith, nat_tests, e, few), grind (arith, nat_tests, e, few))
+
+few_tiles : (s : SetupValue) → IsValid s → s.tiles ≤ 16
+few_tiles s v = let e : is_machine s.tiles s.memory ≡ true = v.machine in grind (arith, nat_tests, e)
+
+named_one : (s : SetupValue) → IsValid s → (e : Event) → misses e s ≡ false → IsOfSetup s e
+named_one s v (Event.Do a c) e = (declared_home s v a (first_free (is_absent a s) (has_program a s) e), tt)
+named_one s v (Event.Turn a) e = (tt, tt)
+named_one s v (Event.Take to from) e = (tt, below to from s.tiles (few_tiles s v) e)
+named_one s v (Event.Tend a) e = (tt, tt)
+named_one s v Event.Close e = (tt, tt)
+named_one s v (Event.Order o) e = (tt, tt)
+named_one s v (Event.File l) e = (tt, tt)
 
 pub named_of : (s : SetupValue) → IsValid s → (es : List Event) → AllNamed s es → AreOfSetup s es
 named_of s v es named k d within = named_one s v (get_or es k d) (named k d within)
+
+-- ---- from the opening
+
+pub text_is : (s : SetupValue) (es : List Event) (text : List ℕ) (first last : Whole) → IsValid s → first ≡ opened_whole s → Follows first es last → IsTextAt last text → IsTextOf s es text
+text_is s es text first last v is f t =
+    let g : Follows (opened_whole s) es last = subst (λ (w : Whole). Follows w es last) is f in
+    record {
+      entries = g.made;
+      audit = t.audit;
+      last = places_of (site s) last.machine;
+      follows = g.follows;
+      run = subst (λ (x : State). IsRun x g.made) (opens_as s v).0 g.ran.run;
+      places =
+          subst (λ (x : State). PlacesMove x (opening_places [] s.lines) g.made (places_of (site s) last.machine)) (opens_as s v).0 (
+          subst (λ (p : Places). PlacesMove (at (opened s)) p g.made (places_of (site s) last.machine)) (opens_as s v).1 g.ran.places
+          );
+      is_text = t.is_text ∙ ap (λ (x : SetupValue). journal_text x last.entries t.audit) g.same ∙ ap (λ (xs : List Entry). journal_text s xs t.audit) g.added;
+    }

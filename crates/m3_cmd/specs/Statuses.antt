@@ -5,8 +5,12 @@ use Rattle.m3_base.specs.declared.event.Event.{Event}
 use Rattle.m3_base.specs.declared.event.Entry.{Entry}
 use Rattle.m3_base.specs.declared.journal.AuditLine.{AuditLine}
 use Rattle.m3_base.specs.Setup.{SetupValue}
+use Rattle.m3_base.specs.Entries.{IsRun}
+use Rattle.m3_base.specs.Opening.{opening}
+use Rattle.m3_base.specs.Places.{Places, opening_places}
 use Rattle.m3_base.specs.Causes.{Appends}
-use Rattle.m3_machine.specs.Whole.{Whole, site, IsOfSetup}
+use Rattle.m3_machine.specs.Whole.{Whole, site, IsOfSetup as HasAct}
+use Rattle.m3_machine.specs.Kept.{IsWithin, PlacesMove, Ran}
 use Rattle.m3_script.specs.declared.script.Mode.{Mode}
 use Rattle.m3_script.specs.Scripts.{Refused, script_of}
 use Rattle.m3_journal.specs.Texts.{journal_text}
@@ -32,25 +36,36 @@ most_bytes = 1048576
 abbrev pub event_of : Entry → Event
 event_of e = e.event
 
--- each command is of an activity of the setup
-abbrev pub AreOfSetup : SetupValue → List Event → Type 0
-AreOfSetup s events = All (IsOfSetup (site s)) events
+-- each command is of an activity of the setup, and each take is of two tiles
+abbrev pub IsOfSetup : SetupValue → Event → Type 0
+IsOfSetup s e = HasAct (site s) e × IsWithin e
 
--- the entries of these events were added, in this order
+abbrev pub AreOfSetup : SetupValue → List Event → Type 0
+AreOfSetup s events = All (IsOfSetup s) events
+
+-- the entries of these events were added, in this order; they are a run of the ideal machine from the state that the
+-- machine stood for to the one that it stands for, and so are its places
 pub record Follows (old : Whole) (events : List Event) (new : Whole) : Type 0 where
   pub same : new.setup ≡ old.setup
-  pub added : map event_of new.entries ≡ map event_of old.entries ++ events
+  pub made : List Entry
+  pub added : new.entries ≡ old.entries ++ made
+  pub follows : map event_of made ≡ events
+  pub ran : Ran (site old.setup) old.machine made new.machine
 
 -- the text is that of this machine's journal
 pub record IsTextAt (m : Whole) (text : List ℕ) : Type 0 where
   pub audit : List AuditLine
   pub is_text : text ≡ journal_text m.setup m.entries audit
 
--- the text is that of a journal of this setup, whose entries have these events in their order
+-- the text is that of a journal of this setup: its entries have these events in their order, are a run of the ideal
+-- machine from the setup's opening, each with just what its steps say, and move the places from those of the opening
 pub record IsTextOf (setup : SetupValue) (events : List Event) (text : List ℕ) : Type 0 where
   pub entries : List Entry
   pub audit : List AuditLine
+  pub last : Places
   pub follows : map event_of entries ≡ events
+  pub run : IsRun (opening setup.memory setup.lines) entries
+  pub places : PlacesMove (opening setup.memory setup.lines) (opening_places [] setup.lines) entries last
   pub is_text : text ≡ journal_text setup entries audit
 
 -- the reader refuses the bytes

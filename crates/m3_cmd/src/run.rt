@@ -2,6 +2,7 @@
 
 ghost use Rattle.std.specs.Prelude.{◌≡◌, ◌≢◌, ◌⊎◌, ◌≤◌, ◌++◌, List, map, length, OnOk, IfOk, IfSome, Some, None, Err, codes};
 ghost use Rattle.m3_base.specs.Causes.{Rose, Appends, AppendsSome, GivesMore, GivesUpTo};
+ghost use Rattle.m3_machine.specs.Kept.{IsKept};
 ghost use Rattle.m3_machine.specs.Whole.{site};
 ghost use Rattle.m3_script.specs.Rules.{AllNamed};
 ghost use Rattle.m3_script.specs.declared.script.Mode.{Mode};
@@ -26,7 +27,8 @@ const USAGE: &[u8] =
 
 /// Makes the events, one after the other.
 fn make(alloc: Global, machine: &mut Machine, events: Vec<Event>) -> Result<(), StepRefusal>
-    requires { AreOfSetup machine.old.setup events.items }
+    requires events { AreOfSetup machine.old.setup events.items }
+    requires kept { IsKept (site machine.old.setup) machine.old.machine }
     ensures { OnOk result (Follows machine.old events.items machine.new) }
 {
     for event in events {
