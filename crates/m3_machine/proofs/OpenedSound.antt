@@ -270,7 +270,8 @@ module _ (memory : ℕ) (programs : List ℕ) (lines : List SetupLine) (obey : A
         flights = refl;
       }
 
-  along : Along h s h.homes
+  -- its homes come with the contexts of the opening
+  pub along : Along h s h.homes
   along = subst (Along h s) (sym homes_are) (along_lines programs h lines (opening memory []) [] nobody obey are_homes)
 
   high : Each (λ x. (2 ≤ x.tile) × (x.tile < 16)) h.homes
@@ -278,6 +279,10 @@ module _ (memory : ℕ) (programs : List ℕ) (lines : List SetupLine) (obey : A
 
   all : SeatedSoFar h s h.homes (opened_machine memory programs lines) × (places_of h (opened_machine memory programs lines) ≡ place_homes (places_of (with_homes h []) (first_machine s)) h.homes)
   all = all_seated h s along high h.homes [] (first_machine s) refl (first_seated h s)
+
+  -- all its homes are seated
+  pub opens_seated : SeatedSoFar h s h.homes (opened_machine memory programs lines)
+  opens_seated = all.0
 
   -- its ideal state is the ideal opening
   pub opens_at : at (opened_machine memory programs lines) ≡ opening memory lines

@@ -10,7 +10,10 @@ use Rattle.m3_machine.specs.Homes.{home_tile}
 use Rattle.m3_machine.specs.Sound.{IsSound}
 use Rattle.m3_machine.specs.Whole.{site, opened}
 use Rattle.m3_machine.proofs.Opens.{TilesOk}
-use Rattle.m3_machine.proofs.OpenedSound.{opens_sound}
+use Rattle.m3_machine.proofs.OpenedSound.{opens_sound, opens_seated, along}
+use Rattle.m3_base.specs.Opening.{opening}
+use Rattle.m3_machine.proofs.Along.{Along}
+use Rattle.m3_machine.proofs.Seating.{SeatedSoFar}
 
 above : (a b : Bool) (t n : ℕ) → n ≤ 16 → (a || not (nat_le 2 t && nat_lt t n)) ≡ false → (2 ≤ t) × (t < 16)
 above true b t n few e = absurd (cc)
@@ -33,6 +36,12 @@ few_tiles s v = let e : is_machine s.tiles s.memory ≡ true = v.machine in grin
 
 pub valid_sound : (s : SetupValue) → IsValid s → IsSound (site s) (opened s)
 valid_sound s v = opens_sound s.memory [] s.lines (valid_obeys s v) (kept_tiles s.lines (no_lines s.tiles s.memory) (few_tiles s v) v.lines)
+
+pub valid_along : (s : SetupValue) → IsValid s → Along (site s) (opening s.memory s.lines) (site s).homes
+valid_along s v = along s.memory [] s.lines (valid_obeys s v) (kept_tiles s.lines (no_lines s.tiles s.memory) (few_tiles s v) v.lines)
+
+pub valid_seated : (s : SetupValue) → IsValid s → SeatedSoFar (site s) (opening s.memory s.lines) (site s).homes (opened s)
+valid_seated s v = opens_seated s.memory [] s.lines (valid_obeys s v) (kept_tiles s.lines (no_lines s.tiles s.memory) (few_tiles s v) v.lines)
 
 -- the home of an activity is a tile from 2 on
 pub home_high : (s : SetupValue) → IsValid s → (a t : ℕ) → home_tile (home_of a (site s)) ≡ Some t → (tile_of (site s) a ≡ t) × (2 ≤ t) × (t < 16)

@@ -7,7 +7,7 @@ ghost use Rattle.m3_machine.specs.declared.machine.StepRefusal.{StepRefusal};
 ghost use Rattle.m3_machine.specs.Links.{place, lists_in, pushed, HasRoom};
 ghost use Rattle.m3_machine.specs.Naming.{is_home};
 ghost use Rattle.m3_machine.specs.Parcels.{parcels_of, out_of};
-ghost use Rattle.m3_machine.specs.Whole.{site, entry, out_links, HasRoomFor, IsOfSetup, IsUnserved, HasFront, Steps};
+ghost use Rattle.m3_machine.specs.Whole.{site, entry, opened_whole, out_links, HasRoomFor, IsOfSetup, IsUnserved, HasFront, Steps};
 
 use crate::audit::{credit_lines, tile_lines};
 use crate::links::{Front, Links};
@@ -103,6 +103,7 @@ impl Machine {
         ensures setup { IfOk result (λ m. m.setup ≡ setup) }
         ensures valid { IfOk result (λ m. IsValid m.setup) }
         ensures entries { IfOk result (λ m. m.entries ≡ []) }
+        ensures whole { IfOk result (λ m. m ≡ opened_whole setup) }
     {
         let site = Site::new(alloc, setup.memory(), setup.lines())?;
         let mut table = contexts(alloc, &setup)?;

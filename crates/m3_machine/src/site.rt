@@ -1,12 +1,12 @@
 //! What the setup says of activities, and no step changes: where each has its home.
 
-ghost use Rattle.std.specs.Prelude.{◌≡◌, IfOk, OnOk, replicate, None, []};
+ghost use Rattle.std.specs.Prelude.{◌≡◌, IfOk, OnOk, map, replicate, None, []};
 ghost use Rattle.m3_base.specs.declared.setup_line.SetupLine.{SetupLine};
 ghost use Rattle.m3_base.specs.Places.{target};
 ghost use Rattle.m3_machine.specs.Parts.{home_of, tile_of, tile_for};
 ghost use Rattle.m3_machine.specs.Naming.{is_home, are_homes, acts_in_form, is_named};
 ghost use Rattle.m3_machine.specs.Machine.{with_home, site_of};
-ghost use Rattle.m3_machine.specs.Homes.{home_tile, site_before};
+ghost use Rattle.m3_machine.specs.Homes.{home_tile, site_before, value_of};
 
 use m3_base::ids::{ActId, TileId};
 use m3_base::packet::{Fresh, Packet};
@@ -126,7 +126,9 @@ impl Site {
     }
 
     /// The activities, as declared.
-    pub fn homes(&self) -> &[Home] {
+    pub fn homes(&self) -> &[Home]
+        ensures { map value_of result.now ≡ self.now.homes }
+    {
         self.homes.as_slice()
     }
 
