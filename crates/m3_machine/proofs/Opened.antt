@@ -1,20 +1,18 @@
 -- The tiles and the links that the code opens with are those of the machine that its setup opens.
-use Rattle.std.proofs.Common.{◌≡◌, ℕ, zero, suc, ◌+◌, ◌<◌, Bool, true, false, List, [], ◌∷◌, ◌++◌, length, get_or, set, drop, map, replicate, Option, Some, None, refl, sym, ap, ◌∙◌, subst, arith}
-use Rattle.std.specs.Prelude.{◌==◌}
+use Rattle.std.proofs.Common.{◌≡◌, ℕ, zero, suc, ◌+◌, ◌<◌, List, [], ◌∷◌, ◌++◌, length, get_or, set, drop, map, replicate, Option, Some, None, refl, sym, ap, ◌∙◌, arith}
 use Rattle.std.proofs.lemmas.Bool.Decides.{nat_tests}
 use Rattle.std.proofs.lemmas.List.{get_or-set_other, get_or_default, drop_more}
 use Rattle.m3_base.specs.Context.{Context}
-use Rattle.m3_base.specs.State.{State, context_of}
+use Rattle.m3_base.specs.State.{State}
 use Rattle.m3_base.specs.Opening.{opening}
 use Rattle.m3_base.specs.Setup.{SetupValue, IsValid}
-use Rattle.m3_base.proofs.Obeying.{valid_obeys}
 use Rattle.m3_merge.specs.Parts.{Each}
 use Rattle.m3_merge.proofs.Merged.{each_map}
 use Rattle.m3_core.specs.declared.parcel.Parcel.{Parcel as CodeParcel}
 use Rattle.m3_machine.specs.declared.site.Home.{Home as CodeHome}
 use Rattle.m3_machine.specs.Homes.{value_of}
-use Rattle.m3_machine.specs.Parts.{Home, Site, Tile, Parcel}
-use Rattle.m3_machine.specs.Parcels.{parcel_of, parcels_of}
+use Rattle.m3_machine.specs.Parts.{Home, Site, Tile}
+use Rattle.m3_machine.specs.Parcels.{parcels_of}
 use Rattle.m3_machine.specs.Table.{HasContexts}
 use Rattle.m3_machine.specs.TileView.{first_of, seated_with}
 use Rattle.m3_machine.specs.Seated.{seated_tiles}
@@ -30,12 +28,6 @@ use Rattle.m3_machine.proofs.OpenedSound.{first_machine}
 abbrev pub tiles_to : ℕ → List Tile
 tiles_to zero = []
 tiles_to (suc n) = tiles_to n ++ empty_tile n ∷ []
-
-pub one_to : (n : ℕ) → tiles_to n ++ empty_tile n ∷ [] ≡ tiles_to (n + 1)
-one_to n = let e : suc n ≡ n + 1 = omega arith in ap tiles_to e
-
-pub all_empty : tiles_to 16 ≡ empty_tiles
-all_empty = refl
 
 -- ---- one home, as the code seats it
 

@@ -98,7 +98,8 @@ fn add(entries: &mut Vec<Entry>, event: Event, outcome: Outcome)
 }
 
 impl Machine {
-    /// The machine that a setup describes, with no entry made. Each activity that is the first of its tile is there.
+    /// The machine that a setup opens, with no entry made: each activity is at its home with its context, and those that
+    /// are the first of their tile are there; no parcel is on any link.
     pub fn open(alloc: Global, setup: Setup) -> Result<Machine, AllocError>
         ensures setup { IfOk result (λ m. m.setup ≡ setup) }
         ensures valid { IfOk result (λ m. IsValid m.setup) }
