@@ -2,12 +2,16 @@
 use Rattle.std.proofs.Common.{◌≡◌, ℕ, List, [], ◌∷◌, true, Option, Some, None, refl, arith}
 use Rattle.m3_base.specs.declared.packet.Perm.{Perm}
 use Rattle.m3_base.specs.declared.packet.Packet.{Packet}
+use Rattle.m3_base.specs.declared.command.Refusal.{Refusal}
+use Rattle.m3_base.specs.declared.command.Reply.{Reply}
 use Rattle.m3_base.specs.declared.order.GrantLine.{GrantLine}
 use Rattle.m3_base.specs.declared.setup_line.SetupLine.{SetupLine}
 use Rattle.m3_base.specs.declared.command.Command.{Command}
 use Rattle.m3_base.specs.declared.step.Step.{Step}
 use Rattle.m3_base.specs.Flight.{flight}
 use Rattle.m3_base.specs.State.{State, Done, Grant, grant_in}
+use Rattle.m3_base.specs.Issue.{Told}
+use Rattle.m3_base.specs.Steps.{Word, At_issue, Landing, Refusing, Next, istep}
 use Rattle.m3_base.specs.Credit.{credits, granted_by}
 use Rattle.m3_base.specs.Entries.{after}
 use Rattle.m3_base.specs.Messages.{collect, final, issued_at, landed_at, refused_at, fetched_at, names_of}
@@ -77,3 +81,54 @@ all_done = (refl, (refl, refl))
 
 pub outside : credits 2 (opening 16 (SetupLine.Act 0 2 ∷ SetupLine.Act 1 3 ∷ SetupLine.Grant (GrantLine.Recv 1 0 2 16) ∷ SetupLine.Grant (GrantLine.Send 0 16 1 7 2) ∷ [])) ≡ 0
 outside = refl
+
+-- ---- causes of refusal
+
+abbrev word_of : Option Next → Option Word
+word_of None = None
+word_of (Some n) = Some n.word
+
+-- what the next step says after these
+abbrev says_after : List SetupLine → List Step → Step → Option Word
+says_after lines ts t = word_of (istep (final (opening 16 lines) ts) t)
+
+abbrev refused_with : Refusal → Option Word
+refused_with why = Some (At_issue (Told.Gives (Reply.Refused why)))
+
+-- the one credit is spent, and its message not yet fetched
+pub wants_credit : says_after children_first_setup (Step.Issue 0 (Command.Send 1 (1 ∷ []) None) ∷ Step.Land (id 0 1) ∷ Step.Answered (id 0 1) ∷ []) (Step.Issue 0 (Command.Send 1 (2 ∷ []) None)) ≡ refused_with Refusal.NoCredits
+wants_credit = refl
+
+pub unused_endpoint : says_after children_first_setup [] (Step.Issue 0 (Command.Send 3 (1 ∷ []) None)) ≡ refused_with Refusal.NoEndpoint
+unused_endpoint = refl
+
+-- the third message finds both slots full
+abbrev three_sends : List Step
+three_sends =
+    Step.Issue 0 (Command.Send 0 (1 ∷ []) None)
+    ∷ Step.Land (id 0 1)
+    ∷ Step.Answered (id 0 1)
+    ∷ Step.Issue 0 (Command.Send 1 (2 ∷ []) None)
+    ∷ Step.Land (id 0 2)
+    ∷ Step.Answered (id 0 2)
+    ∷ Step.Issue 0 (Command.Send 1 (3 ∷ []) None)
+    ∷ []
+
+pub buffer_is_full : says_after full_buffer_setup three_sends (Step.Land (id 0 3)) ≡ Some (Refusing (id 0 3) Refusal.Full)
+buffer_is_full = refl
+
+-- a message that comes before the Install of its receive grant
+abbrev before_install : List Step
+before_install =
+    Step.Make (GrantLine.Recv 1 0 2 16)
+    ∷ Step.Make (GrantLine.Send 0 0 1 7 2)
+    ∷ Step.Land (id 64 2)
+    ∷ Step.Issue 0 (Command.Send 0 (1 ∷ []) None)
+    ∷ []
+
+pub install_flies : says_after (SetupLine.Act 0 2 ∷ SetupLine.Act 1 3 ∷ []) before_install (Step.Land (id 0 1)) ≡ Some (Refusing (id 0 1) Refusal.Revoked)
+install_flies = refl
+
+-- and once it has landed the message does too
+pub install_landed : says_after (SetupLine.Act 0 2 ∷ SetupLine.Act 1 3 ∷ []) (Step.Make (GrantLine.Recv 1 0 2 16) ∷ Step.Make (GrantLine.Send 0 0 1 7 2) ∷ Step.Land (id 64 2) ∷ Step.Issue 0 (Command.Send 0 (1 ∷ []) None) ∷ Step.Land (id 64 1) ∷ []) (Step.Land (id 0 1)) ≡ Some (Landing (id 0 1))
+install_landed = refl

@@ -43,3 +43,4 @@ pub mod Ordered
 pub mod Shown
 pub mod Fetched
 pub mod Journals
+pub mod JournalRuns

@@ -7,3 +7,4 @@ pub mod Invariant
 pub mod Held
 pub mod Quiet
 pub mod Order
+pub mod Journal

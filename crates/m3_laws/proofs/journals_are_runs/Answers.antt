@@ -1,0 +1,5 @@
+use Rattle.m3_laws.proofs.JournalRuns.{one_run}
+use Rattle.m3_laws.proofs.journals_are_runs.Goals as goal
+
+pub returns : goal.returns
+returns c = one_run

@@ -1,0 +1,5 @@
+use Rattle.m3_laws.proofs.JournalRuns.{journal_laws}
+use Rattle.m3_laws.proofs.journals_keep_laws.Goals as goal
+
+pub returns : goal.returns
+returns c = journal_laws
