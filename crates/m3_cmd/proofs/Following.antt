@@ -12,7 +12,7 @@ use Rattle.m3_base.specs.Entries.{IsRun}
 use Rattle.m3_base.specs.Opening.{opening}
 use Rattle.m3_base.specs.Setup.{SetupValue, IsValid, is_machine}
 use Rattle.m3_machine.specs.At.{at, places_of}
-use Rattle.m3_machine.specs.Kept.{IsKept, IsWithin, PlacesMove}
+use Rattle.m3_machine.specs.Kept.{IsKept, IsWithin, PlacesRun}
 use Rattle.m3_machine.specs.Whole.{Whole, Steps, entry, site, opened, opened_whole, IsServed, IsOfSetup as HasAct}
 use Rattle.m3_machine.specs.Machine.{mstep}
 use Rattle.m3_machine.proofs.Contexts.{first_free}
@@ -79,8 +79,8 @@ text_is s es text first last v is f t =
       follows = g.follows;
       run = subst (λ (x : State). IsRun x g.made) (opens_as s v).0 g.ran.run;
       places =
-          subst (λ (x : State). PlacesMove x (opening_places [] s.lines) g.made (places_of (site s) last.machine)) (opens_as s v).0 (
-          subst (λ (p : Places). PlacesMove (at (opened s)) p g.made (places_of (site s) last.machine)) (opens_as s v).1 g.ran.places
+          subst (λ (x : State). PlacesRun x (opening_places [] s.lines) g.made (places_of (site s) last.machine)) (opens_as s v).0 (
+          subst (λ (p : Places). PlacesRun (at (opened s)) p g.made (places_of (site s) last.machine)) (opens_as s v).1 g.ran.places
           );
       is_text = t.is_text ∙ ap (λ (x : SetupValue). journal_text x last.entries t.audit) g.same ∙ ap (λ (xs : List Entry). journal_text s xs t.audit) g.added;
     }

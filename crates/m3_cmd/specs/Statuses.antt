@@ -10,7 +10,7 @@ use Rattle.m3_base.specs.Opening.{opening}
 use Rattle.m3_base.specs.Places.{Places, opening_places}
 use Rattle.m3_base.specs.Causes.{Appends}
 use Rattle.m3_machine.specs.Whole.{Whole, site, IsOfSetup as HasAct}
-use Rattle.m3_machine.specs.Kept.{IsWithin, PlacesMove, Ran}
+use Rattle.m3_machine.specs.Kept.{IsWithin, PlacesRun, Ran}
 use Rattle.m3_script.specs.declared.script.Mode.{Mode}
 use Rattle.m3_script.specs.Scripts.{Refused, script_of}
 use Rattle.m3_journal.specs.Texts.{journal_text}
@@ -65,7 +65,7 @@ pub record IsTextOf (setup : SetupValue) (events : List Event) (text : List ℕ)
   pub last : Places
   pub follows : map event_of entries ≡ events
   pub run : IsRun (opening setup.memory setup.lines) entries
-  pub places : PlacesMove (opening setup.memory setup.lines) (opening_places [] setup.lines) entries last
+  pub places : PlacesRun (opening setup.memory setup.lines) (opening_places [] setup.lines) entries last
   pub is_text : text ≡ journal_text setup entries audit
 
 -- the reader refuses the bytes

@@ -27,6 +27,7 @@ use Rattle.m3_machine.specs.Sound.{Hypotheses, IsSound}
 use Rattle.m3_machine.specs.Refines.{as_places, Refined}
 use Rattle.m3_machine.specs.Whole.{IsOfSetup, IsServed, ServesLink}
 use Rattle.m3_machine.specs.Kept.{IsKept, IsWithin, Means}
+use Rattle.m3_machine.proofs.Forms.{form_of}
 use Rattle.m3_machine.proofs.Doing.{do_refines}
 use Rattle.m3_machine.proofs.Empty.{empty_refines}
 use Rattle.m3_machine.proofs.Landed.{take_here_refines}
@@ -189,6 +190,6 @@ module _ (h : Site) (m : Machine) (e : Event) (o : Outcome) (next : Machine) (st
   means = record {
     says = subst (λ (z : Option Made). SaysBy (steps_of e (record { made = z; said = o.said; restore = o.restore })) (at m) o.said) (sym plain) (laws.says h m e None did (no_turn m e served) refined).0;
     reaches = subst (λ (z : Option Made). ran_to (irun (steps_of e (record { made = z; said = o.said; restore = o.restore })) (at m)) (at m) ≡ at next) (sym plain) (laws.says h m e None did (no_turn m e served) refined).1;
-    moves = moves_as e refl served;
+    placed = record { form = form_of h m e o next step served; moves = moves_as e refl served };
     kept = record { sound = refined.1; law = quiet_kept h m e None did (no_turn m e served) refined (quiet m e served) kept.law };
   }

@@ -5,7 +5,7 @@ use Rattle.m3_base.specs.declared.event.Entry.{Entry}
 use Rattle.m3_base.specs.Entries.{Says, next_state, after, IsRun}
 use Rattle.m3_base.specs.State.{State}
 use Rattle.m3_base.specs.Places.{Places}
-use Rattle.m3_base.specs.PlaceSteps.{Moves}
+use Rattle.m3_base.specs.PlaceSteps.{IsPlaceStep}
 use Rattle.m3_laws.proofs.Quiets.{QuietInvariant}
 use Rattle.m3_machine.specs.Parts.{Site}
 use Rattle.m3_machine.specs.Machine.{Machine}
@@ -22,24 +22,24 @@ abbrev pub IsWithin : Event → Type 0
 IsWithin (Event.Take to from) = (to < 16) × (from < 16)
 IsWithin event = Unit {0}
 
--- the entry says what its ideal steps say, they lead to the state that the machine then stands for, and its places move
--- as theirs do
+-- the entry says what its ideal steps say, they lead to the state that the machine then stands for, and it is a step of
+-- the places
 pub record Means (h : Site) (old : Machine) (e : Entry) (new : Machine) : Type 0 where
   pub says : Says (at old) e
   pub reaches : next_state (at old) e ≡ at new
-  pub moves : Moves (at old) (places_of h old) e.event e.outcome (places_of h new)
+  pub placed : IsPlaceStep (at old) (places_of h old) e (places_of h new)
   pub kept : IsKept h new
 
 -- ---- many steps
 
 -- the places make the steps of these entries, one after the other
-abbrev pub PlacesMove : State → Places → List Entry → Places → Type 0
-PlacesMove s p [] q = q ≡ p
-PlacesMove s p (e ∷ es) q = (mid : Places) × Moves s p e.event e.outcome mid × PlacesMove (next_state s e) mid es q
+abbrev pub PlacesRun : State → Places → List Entry → Places → Type 0
+PlacesRun s p [] q = q ≡ p
+PlacesRun s p (e ∷ es) q = (mid : Places) × IsPlaceStep s p e mid × PlacesRun (next_state s e) mid es q
 
 -- the entries are a run of the ideal machine from one machine's state to the other's, and so are their places
 pub record Ran (h : Site) (old : Machine) (entries : List Entry) (new : Machine) : Type 0 where
   pub run : IsRun (at old) entries
   pub reaches : after (at old) entries ≡ at new
-  pub places : PlacesMove (at old) (places_of h old) entries (places_of h new)
+  pub places : PlacesRun (at old) (places_of h old) entries (places_of h new)
   pub kept : IsKept h new

@@ -21,4 +21,7 @@ make-requires c =
     }
 
 pub returns : goal.returns
-returns c = ?
+returns c =
+    let opened = c.in_ok-machine.ensures in
+    text_is c.args.script.setup c.args.script.events.items c.in_ok-printed.field-0.items c.in_ok-machine.machine c.make.new.machine
+    (subst IsValid opened.setup opened.valid) opened.whole c.in_ok-make.ensures c.in_ok-printed.ensures
