@@ -1,6 +1,6 @@
 -- What a step of the machine means: its entry says what ideal steps say, it is a step of the places, and the machine
 -- stays sound.
-use Rattle.std.proofs.Common.{◌≡◌, ℕ, zero, suc, ◌<◌, ◌≤◌, Bool, true, false, List, [], ◌∷◌, Option, Some, None, refl, sym, subst, ap, ◌∙◌, arith}
+use Rattle.std.proofs.Common.{◌≡◌, ℕ, ◌<◌, ◌≤◌, Bool, true, false, List, [], ◌∷◌, Option, Some, None, refl, sym, subst, ap, ◌∙◌, arith}
 use Rattle.std.proofs.lemmas.Bool.Decides.{nat_tests}
 use Rattle.m3_base.specs.declared.event.Event.{Event}
 use Rattle.std.specs.Prelude.{if◌then◌else◌, ◌==◌}
@@ -23,7 +23,7 @@ use Rattle.m3_machine.specs.Parts.{tile_of, Site, Tile, Deed, says, is_idle, Par
 use Rattle.m3_machine.specs.Tile.{act_in, do_issued, do_at, take_arrived, take_here, take_data, arrive_named}
 use Rattle.m3_machine.specs.Machine.{Machine, Did, Part, Is_kernel, Is_memory, Is_tile, tile_at, link_at, mstep, part_at, part_step, tile_for_event, took, popped, front, done_by}
 use Rattle.m3_machine.specs.At.{at, places_of}
-use Rattle.m3_machine.specs.Sound.{Hypotheses, IsSound}
+use Rattle.m3_machine.specs.Sound.{Hypotheses}
 use Rattle.m3_machine.specs.Refines.{as_places, Refined}
 use Rattle.m3_machine.specs.Whole.{IsOfSetup, IsServed, ServesLink}
 use Rattle.m3_machine.specs.Kept.{IsKept, IsWithin, Means}

@@ -1,12 +1,11 @@
 -- Steps one after the other.
-use Rattle.std.proofs.Common.{◌≡◌, ℕ, List, [], ◌∷◌, ◌++◌, refl, sym, subst, ap, ◌∙◌}
+use Rattle.std.proofs.Common.{◌≡◌, List, [], ◌∷◌, ◌++◌, refl, sym, subst, ap, ◌∙◌}
 use Rattle.m3_base.specs.declared.event.Entry.{Entry}
 use Rattle.m3_base.specs.State.{State}
 use Rattle.m3_base.specs.Setup.{SetupValue, IsValid}
 use Rattle.m3_base.specs.Places.{Places}
 use Rattle.m3_base.specs.PlaceSteps.{IsPlaceStep}
 use Rattle.m3_base.specs.Entries.{Says, next_state, after, IsRun}
-use Rattle.m3_base.proofs.Obeying.{valid_obeys}
 use Rattle.m3_laws.proofs.Quiets.{QuietInvariant, quiet_invariant_opening}
 use Rattle.m3_machine.specs.Parts.{Site}
 use Rattle.m3_machine.specs.Machine.{Machine}
