@@ -19,3 +19,4 @@ pub mod TileView
 pub mod Progress
 pub mod Aims
 pub mod Table
+pub mod Next
