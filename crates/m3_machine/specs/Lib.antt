@@ -20,3 +20,4 @@ pub mod Progress
 pub mod Aims
 pub mod Table
 pub mod Next
+pub mod Closing

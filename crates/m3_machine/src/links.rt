@@ -48,10 +48,10 @@ fn no_parcels(alloc: Global) -> Result<Vec<VecDeque<Parcel>>, AllocError>
 }
 
 /// The count with the data packets of one more link.
-fn counted(link: &VecDeque<Parcel>, count: u32) -> u32
-    ensures { result ≡ min 4294967295 (count + data_in link.now.items) }
+fn counted(link: &VecDeque<Parcel>, before: u32) -> u32
+    ensures { result ≡ min 4294967295 (before + data_in link.now.items) }
 {
-    let mut count = count;
+    let mut count = before;
     for parcel in link.iter() {
         if let Parcel::Data(_) = parcel {
             count = count.saturating_add(1);
