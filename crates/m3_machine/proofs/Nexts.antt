@@ -1,15 +1,17 @@
--- The next take is that of the places.
-use Rattle.std.proofs.Common.{◌≡◌, ℕ, List, [], ◌∷◌, Option, Some, None, map, refl, sym, ap, ◌∙◌}
+-- The next take and the lines on tiles are those of the places.
+use Rattle.std.proofs.Common.{◌≡◌, ℕ, zero, suc, ◌+◌, ◌-◌, get_or, List, [], ◌∷◌, Option, Some, None, map, refl, sym, ap, ◌∙◌}
 use Rattle.std.proofs.Math.ListN.{get_or-map}
 use Rattle.m3_base.specs.declared.event.Event.{Event}
 use Rattle.m3_base.specs.Places.{Token}
+use Rattle.m3_base.specs.declared.journal.AuditLine.{AuditLine}
+use Rattle.m3_base.specs.Audit as audit
 use Rattle.m3_base.specs.Driver as driver
 use Rattle.m3_base.specs.Driver.{tiles, first_for, first_some}
 use Rattle.m3_machine.specs.Parts.{Site, Parcel}
 use Rattle.m3_machine.specs.Links.{place, list_at}
 use Rattle.m3_machine.specs.Machine.{Machine}
-use Rattle.m3_machine.specs.At.{token, places_of}
-use Rattle.m3_machine.specs.Next.{take_if, take_on, next_take_at, next_take_on, next_take}
+use Rattle.m3_machine.specs.At.{token, places_of, current_act}
+use Rattle.m3_machine.specs.Next.{take_if, take_on, next_take_at, next_take_on, next_take, tile_lines, tile_lines_from}
 
 first_same : (f g : ℕ → Option Event) → ((t : ℕ) → f t ≡ g t) → (ts : List ℕ) → first_for ts f ≡ first_for ts g
 first_same f g same [] = refl
@@ -51,3 +53,11 @@ driver_on links =
 -- the driver of the whole system takes the same
 pub next_is_driver : (h : Site) (m : Machine) → driver.next_take (places_of h m) ≡ next_take m
 next_is_driver h m = driver_on (map (λ xs. map token xs) m.links) ∙ next_mapped token m.links
+
+tile_lines_same : (t n : ℕ) (h : Site) (m : Machine) → audit.tile_lines_from t n (places_of h m) ≡ tile_lines_from t n (map current_act m.tiles)
+tile_lines_same t zero h m = refl
+tile_lines_same t (suc n) h m = ap (λ ls. AuditLine.Tile t (get_or (map current_act m.tiles) t None) ∷ ls) (tile_lines_same (t + 1) n h m)
+
+-- the lines on tiles are those of the places
+pub tile_lines_are : (count : ℕ) (h : Site) (m : Machine) → audit.tile_lines count (places_of h m) ≡ tile_lines count m.tiles
+tile_lines_are count h m = tile_lines_same 2 (count - 2) h m
