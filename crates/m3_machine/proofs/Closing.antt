@@ -33,9 +33,9 @@ ends_with before tiled flown lines tile_part f q e1 e2 e3 =
     record {
       before = before;
       parts = e3
-        ∙ ap (λ ls. ls ++ q ∷ []) (e2 ∙ ap (λ ls. ls ++ f ∷ []) e1)
-        ∙ append_assoc (before ++ tile_part) (f ∷ []) (q ∷ [])
-        ∙ append_assoc before tile_part (f ∷ q ∷ []);
+          ∙ ap (λ ls. ls ++ q ∷ []) (e2 ∙ ap (λ ls. ls ++ f ∷ []) e1)
+          ∙ append_assoc (before ++ tile_part) (f ∷ []) (q ∷ [])
+          ∙ append_assoc before tile_part (f ∷ q ∷ []);
     }
 
 pub is_none_from : {X : Type 0} (b : Bool) (o : Option X) → is_some o ≡ not b → b ≡ is_none o

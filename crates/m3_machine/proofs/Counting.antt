@@ -27,7 +27,7 @@ module _ (links : List (VecDeque CodeParcel Global)) (i : ℕ) where
   pub link_counted : (x : VecDeque CodeParcel Global) (count new : ℕ) → i < length links → x ≡ get_or links i x → new ≡ min 4294967295 (count + data_in x.items) → min 4294967295 (count + data_on (lists_in (drop i links))) ≡ min 4294967295 (new + data_on (lists_in (drop (i + 1) links)))
   link_counted x count new within read e =
       let more : data_on (lists_in (drop i links)) ≡ data_in x.items + data_on (lists_in (drop (i + 1) links)) =
-          ap (λ ls. data_on (lists_in ls)) (drop_more links i x within) ∙ ap (λ (q : VecDeque CodeParcel Global). data_in q.items + data_on (lists_in (drop (i + 1) links))) (sym read) in
+      ap (λ ls. data_on (lists_in ls)) (drop_more links i x within) ∙ ap (λ (q : VecDeque CodeParcel Global). data_in q.items + data_on (lists_in (drop (i + 1) links))) (sym read) in
       omega arith
 
   left_none : (ls : List (VecDeque CodeParcel Global)) (j : ℕ) → length ls ≤ j → drop j ls ≡ []

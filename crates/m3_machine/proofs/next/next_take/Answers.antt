@@ -12,7 +12,7 @@ loop-to-preserved c =
     let links = lists_in c.args.links.now.links.items in
     let inv : next_take_on links ≡ first_from (next_take_at links) c.loop-to.to = c.loop-to.invariant in
     let none : next_take_at links c.loop-to.to ≡ None =
-        ap (next_take_at links) (sym c.new.ensures) ∙ sym c.next_take_at-next.ensures ∙ is_nothing c.next_take_at-next.result (sym c.is_some.ensures ∙ c.if-is_some.false) in
+    ap (next_take_at links) (sym c.new.ensures) ∙ sym c.next_take_at-next.ensures ∙ is_nothing c.next_take_at-next.result (sym c.is_some.ensures ∙ c.if-is_some.false) in
     inv ∙ passes (next_take_at links) c.loop-to.to c.loop-to-test.true none
 
 pub returns-then-is_some : goal.returns-then-is_some
@@ -21,7 +21,7 @@ returns-then-is_some c =
     let inv : next_take_on links ≡ first_from (next_take_at links) c.loop-to.to = c.loop-to.invariant in
     let some = is_something c.next_take_at-next.result (sym c.is_some.ensures ∙ c.if-is_some.true) in
     let here : next_take_at links c.loop-to.to ≡ Some some.0 =
-        ap (next_take_at links) (sym c.new.ensures) ∙ sym c.next_take_at-next.ensures ∙ some.1 in
+    ap (next_take_at links) (sym c.new.ensures) ∙ sym c.next_take_at-next.ensures ∙ some.1 in
     some.1 ∙ sym (inv ∙ comes (next_take_at links) c.loop-to.to c.loop-to-test.true some.0 here)
 
 pub returns : goal.returns

@@ -14,7 +14,7 @@ loop-from-preserved c =
     let to = c.args.to in
     let from = c.loop-from.from in
     let empty : is_nil (list_at links (place from to)) ≡ true =
-        subst (λ (f : ℕ). is_nil (list_at links (place f to)) ≡ true) c.new-from.ensures (sym c.is_empty.ensures ∙ c.if-not-is_empty.false) in
+    subst (λ (f : ℕ). is_nil (list_at links (place f to)) ≡ true) c.new-from.ensures (sym c.is_empty.ensures ∙ c.if-not-is_empty.false) in
     c.loop-from.invariant ∙ passes (take_on links to) from c.loop-from-test.true (take_none to from (list_at links (place from to)) empty)
 
 pub returns-then-not-is_empty : goal.returns-then-not-is_empty
@@ -23,7 +23,7 @@ returns-then-not-is_empty c =
     let to = c.args.to in
     let from = c.loop-from.from in
     let some : is_nil (list_at links (place from to)) ≡ false =
-        subst (λ (f : ℕ). is_nil (list_at links (place f to)) ≡ false) c.new-from.ensures (sym c.is_empty.ensures ∙ c.if-not-is_empty.true) in
+    subst (λ (f : ℕ). is_nil (list_at links (place f to)) ≡ false) c.new-from.ensures (sym c.is_empty.ensures ∙ c.if-not-is_empty.true) in
     ap (λ f. Some (Event.Take to f)) c.new-from.ensures
     ∙ sym (c.loop-from.invariant ∙ comes (take_on links to) from c.loop-from-test.true (Event.Take to from) (take_some to from (list_at links (place from to)) some))
 

@@ -14,13 +14,13 @@ returns c =
     let w = c.args.self.now in
     let inside = c.self.inside in
     let tiled : tile_lines c.tiles.result c.deref-2.result.now ≡ tile_lines w.setup.tiles w.machine.tiles =
-        ap (λ (k : ℕ). tile_lines k c.deref-2.result.now) c.tiles.ensures
-        ∙ ap (λ (ts : List Tile). tile_lines inside.journal.setup.tiles ts) c.deref-2.ensures.value
-        ∙ ap (λ (v : Whole). tile_lines v.setup.tiles v.machine.tiles) c.self.view_is in
+    ap (λ (k : ℕ). tile_lines k c.deref-2.result.now) c.tiles.ensures
+    ∙ ap (λ (ts : List Tile). tile_lines inside.journal.setup.tiles ts) c.deref-2.ensures.value
+    ∙ ap (λ (v : Whole). tile_lines v.setup.tiles v.machine.tiles) c.self.view_is in
     let flown : c.flights.result ≡ min 4294967295 (flights w.machine) =
-        c.flights.ensures
-        ∙ ap (min 4294967295) (flights_are (lists_in inside.links.links.items))
-        ∙ ap (λ (v : Whole). min 4294967295 (flights v.machine)) c.self.view_is in
+    c.flights.ensures
+    ∙ ap (min 4294967295) (flights_are (lists_in inside.links.links.items))
+    ∙ ap (λ (v : Whole). min 4294967295 (flights v.machine)) c.self.view_is in
     let quiet : c.is_none.result ≡ is_none (next_take w.machine) = is_none_from c.is_none.result c.next.result c.is_none.ensures ∙ ap is_none c.next.ensures in
     ends_with
     c.credit_lines.new.lines.items

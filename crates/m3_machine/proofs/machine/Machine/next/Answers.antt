@@ -8,5 +8,5 @@ use Rattle.m3_machine.proofs.machine.Machine.next.Goals as goal
 
 pub returns : goal.returns
 returns c =
-    c.next_take.ensures ∙ sym (next_mapped parcel_of (lists_in c.self.inside.links.links.items)) 
+    c.next_take.ensures ∙ sym (next_mapped parcel_of (lists_in c.self.inside.links.links.items))
     ∙ ap (λ (w : Whole). next_take w.machine) c.self.view_is
