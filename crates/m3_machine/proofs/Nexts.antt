@@ -1,5 +1,5 @@
 -- The next take and the lines on tiles are those of the places.
-use Rattle.std.proofs.Common.{◌≡◌, ℕ, zero, suc, ◌+◌, ◌-◌, get_or, List, [], ◌∷◌, Option, Some, None, map, refl, sym, ap, ◌∙◌}
+use Rattle.std.proofs.Common.{◌≡◌, ℕ, zero, suc, ◌+◌, ◌-◌, get_or, List, [], ◌∷◌, Option, None, map, refl, ap, ◌∙◌}
 use Rattle.std.proofs.Math.ListN.{get_or-map}
 use Rattle.m3_base.specs.declared.event.Event.{Event}
 use Rattle.m3_base.specs.Places.{Token}
@@ -7,7 +7,7 @@ use Rattle.m3_base.specs.declared.journal.AuditLine.{AuditLine}
 use Rattle.m3_base.specs.Audit as audit
 use Rattle.m3_base.specs.Driver as driver
 use Rattle.m3_base.specs.Driver.{tiles, first_for, first_some}
-use Rattle.m3_machine.specs.Parts.{Site, Parcel}
+use Rattle.m3_machine.specs.Parts.{Site}
 use Rattle.m3_machine.specs.Links.{place, list_at}
 use Rattle.m3_machine.specs.Machine.{Machine}
 use Rattle.m3_machine.specs.At.{token, places_of, current_act}

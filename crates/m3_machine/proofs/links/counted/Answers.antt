@@ -1,4 +1,4 @@
-use Rattle.std.proofs.Common.{◌≡◌, ◌+◌, ◌++◌, ◌∙◌, min, ap}
+use Rattle.std.proofs.Common.{◌+◌, ◌++◌, ◌∙◌, min, ap}
 use Rattle.m3_machine.specs.Next.{data_in}
 use Rattle.m3_machine.proofs.Counting.{no_data, all_counted}
 use Rattle.m3_machine.proofs.links.counted.Goals as goal

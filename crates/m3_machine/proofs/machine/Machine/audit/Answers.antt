@@ -1,9 +1,9 @@
-use Rattle.std.proofs.Common.{◌≡◌, ℕ, List, [], ◌∷◌, ◌++◌, min, is_none, ◌∙◌, ap, subst}
+use Rattle.std.proofs.Common.{◌≡◌, ℕ, List, [], ◌∷◌, ◌++◌, min, is_none, ◌∙◌, ap}
 use Rattle.m3_base.specs.declared.journal.AuditLine.{AuditLine}
 use Rattle.m3_machine.specs.Links.{lists_in}
 use Rattle.m3_machine.specs.Parts.{Tile}
 use Rattle.m3_machine.specs.Next.{tile_lines, next_take}
-use Rattle.m3_machine.specs.Closing.{EndsWith, flights}
+use Rattle.m3_machine.specs.Closing.{flights}
 use Rattle.m3_machine.specs.Whole.{Whole}
 use Rattle.m3_machine.proofs.Closing.{ends_with, is_none_from}
 use Rattle.m3_machine.proofs.Counting.{flights_are}
