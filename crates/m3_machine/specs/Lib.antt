@@ -21,3 +21,5 @@ pub mod Progress
 pub mod Aims
 pub mod Table
 pub mod Seated
+pub mod Next
+pub mod Closing

@@ -1,6 +1,7 @@
 //! The lines that close a journal, on credits and on tiles.
 
-ghost use Rattle.std.specs.Prelude.{◌≡◌, ◌<◌, ◌≤◌, length, IfOk};
+ghost use Rattle.std.specs.Prelude.{◌≡◌, ◌<◌, ◌≤◌, ◌++◌, length, IfOk, OnOk};
+ghost use Rattle.m3_machine.specs.Next.{tile_lines};
 
 use crate::links::Links;
 use crate::site::Site;
@@ -186,6 +187,7 @@ pub fn tile_lines(
 ) -> Result<(), AllocError>
     requires count { count ≤ 16 }
     requires tiles { length tiles.now ≡ 16 }
+    ensures { OnOk result (lines.new.items ≡ lines.old.items ++ tile_lines count tiles.now) }
 {
     for number in 2..count {
         let act = match tiles[usize::from(number)].current() {

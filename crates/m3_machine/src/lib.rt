@@ -5,6 +5,7 @@ mod aims;
 mod audit;
 pub mod links;
 pub mod machine;
+mod next;
 mod opening;
 mod shown;
 pub mod site;

@@ -1,8 +1,9 @@
 //! The links: for each ordered pair of tiles the parcels on their way, first in, first out.
 
-ghost use Rattle.std.specs.Prelude.{◌≡◌, ℕ, ◌+◌, ◌*◌, ◌<◌, length, replicate, [], OnOk, IfOk};
+ghost use Rattle.std.specs.Prelude.{◌≡◌, ℕ, ◌+◌, ◌*◌, ◌<◌, min, length, replicate, [], OnOk, IfOk};
 ghost use Rattle.m3_machine.specs.Links.{lists_in, pushed, popped, place, first, list_at, HasRoom};
 ghost use Rattle.m3_machine.specs.Parcels.{front_of};
+ghost use Rattle.m3_machine.specs.Next.{is_nil, data_in, data_on};
 
 use m3_base::ids::{FlightId, TileId};
 use m3_core::parcel::Parcel;
@@ -44,6 +45,19 @@ fn no_parcels(alloc: Global) -> Result<Vec<VecDeque<Parcel>>, AllocError>
         links.push(VecDeque::new(alloc))?;
     }
     Ok(links)
+}
+
+/// The count with the data packets of one more link.
+fn counted(link: &VecDeque<Parcel>, before: u32) -> u32
+    ensures { result ≡ min 4294967295 (before + data_in link.now.items) }
+{
+    let mut count = before;
+    for parcel in link.iter() {
+        if let Parcel::Data(_) = parcel {
+            count = count.saturating_add(1);
+        }
+    }
+    count
 }
 
 impl Links {
@@ -97,8 +111,11 @@ impl Links {
     }
 
     /// Whether this link has no parcel.
-    pub fn is_empty(&self, from: TileId, to: TileId) -> bool {
-        self.links[place(from, to)].is_empty()
+    pub fn is_empty(&self, from: TileId, to: TileId) -> bool
+        ensures { result ≡ is_nil (list_at (lists_in self.now.links.items) (place from to)) }
+    {
+        let at = place(from, to);
+        self.links[at].is_empty()
     }
 
     /// All links.
@@ -109,14 +126,12 @@ impl Links {
     }
 
     /// How many data packets are on all links.
-    pub fn flights(&self) -> u32 {
+    pub fn flights(&self) -> u32
+        ensures { result ≡ min 4294967295 (data_on (lists_in self.now.links.items)) }
+    {
         let mut count = 0u32;
         for link in self.links.iter() {
-            for parcel in link.iter() {
-                if let Parcel::Data(_) = parcel {
-                    count = count.saturating_add(1);
-                }
-            }
+            count = counted(link, count);
         }
         count
     }

@@ -6,11 +6,14 @@ ghost use Rattle.m3_base.specs.Setup.{IsValid};
 ghost use Rattle.m3_machine.specs.declared.machine.StepRefusal.{StepRefusal};
 ghost use Rattle.m3_machine.specs.Links.{place, lists_in, pushed, HasRoom};
 ghost use Rattle.m3_machine.specs.Naming.{is_home};
+ghost use Rattle.m3_machine.specs.Next.{next_take};
+ghost use Rattle.m3_machine.specs.Closing.{EndsWith, last_lines};
 ghost use Rattle.m3_machine.specs.Parcels.{parcels_of, out_of};
 ghost use Rattle.m3_machine.specs.Whole.{site, entry, opened_whole, out_links, HasRoomFor, IsOfSetup, IsServed, IsUnserved, HasFront, Steps};
 
 use crate::audit::{credit_lines, tile_lines};
 use crate::links::{Front, Links};
+use crate::next::next_take;
 use crate::opening::{contexts, seated};
 use crate::site::Site;
 use crate::tile::{TileDid, TilePart, is_idle};
@@ -223,22 +226,17 @@ impl Machine {
 
     /// The event that the driver makes next, where there is one: the take with the least receiving tile, then the least
     /// sending tile, among links that aren't empty.
-    pub fn next(&self) -> Option<Event> {
-        for to in 0..16u8 {
-            for from in 0..16u8 {
-                let to = TileId::new(to);
-                let from = TileId::new(from);
-                if !self.links.is_empty(from, to) {
-                    return Some(Event::Take { to, from });
-                }
-            }
-        }
-        None
+    pub fn next(&self) -> Option<Event>
+        ensures { result ≡ next_take self.now.machine }
+    {
+        next_take(&self.links)
     }
 
     /// The closing lines: the credits of each send grant, the current activity of each tile from 2 on, the flights, and
     /// whether the driver has nothing more to do.
-    pub fn audit(&self, alloc: Global) -> Result<Audit, AllocError> {
+    pub fn audit(&self, alloc: Global) -> Result<Audit, AllocError>
+        ensures { IfOk result (λ a. EndsWith a.lines.items (last_lines self.now)) }
+    {
         let mut lines = Vec::new(alloc);
         credit_lines(
             alloc,

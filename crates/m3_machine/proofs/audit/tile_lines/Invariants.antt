@@ -1,0 +1,9 @@
+use Rattle.std.proofs.Common.{◌≡◌, ◌-◌, ◌++◌, map}
+use Rattle.m3_machine.specs.At.{current_act}
+use Rattle.m3_machine.specs.Next.{tile_lines, tile_lines_from}
+use Rattle.m3_machine.proofs.audit.tile_lines.Given as goal
+
+abbrev pub invariant-loop-number : goal.invariant-loop-number
+invariant-loop-number l =
+    l.initial.lines.items ++ tile_lines l.fn.count l.fn.tiles
+    ≡ l.lines.items ++ tile_lines_from l.number (l.fn.count - l.number) (map current_act l.fn.tiles)
