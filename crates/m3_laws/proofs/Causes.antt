@@ -26,7 +26,7 @@ use Rattle.m3_base.specs.Land.{land_refusal, has_closing}
 use Rattle.m3_base.specs.State.{Grant, State, context_of, act_of, same_act, grant_in, parent_in, parent_of, holder, holder_ep}
 use Rattle.m3_base.specs.Grants.{form, send_form, part_form}
 use Rattle.m3_base.specs.Steps.{At_issue, issue_in, issued_in, with_packet, number_of}
-use Rattle.m3_laws.specs.Laws.{installs, SendCauses, IsSendCause, LandCauses, land_cause, has_no_slot}
+use Rattle.m3_laws.specs.Laws.{installs, SendCauses, IsSendCause, send_cause, send_told, SendsTold, LandCauses, land_cause, has_no_slot}
 use Rattle.m3_laws.specs.Lawful.{GrantLawful, KeepsOpen, is_ready, open_at, sent_at, is_at, ChildOf, HeldAt, FormLawful, form_of}
 use Rattle.m3_laws.specs.Proper.{is_sent_by_form, is_sent_as}
 use Rattle.m3_laws.specs.Invariant.{Invariant}
@@ -231,6 +231,25 @@ told_sends c ep payload to (Sends r) why e = by_why (send_refusal c r payload to
     by_why : (o : Option Refusal) → send_refusal c r payload to ≡ o → (unless o c (record { told = Told.Flies (next_id c); packet = Some (send_packet c r payload to); context = with_endpoint (launched c Sending ep 0) ep (Sends (less_one r)) })).told ≡ Told.Gives (Reply.Refused why) → IsSendCause why
     by_why None w e = absurd (cc)
     by_why (Some x) w e = let q : x ≡ why = cc in subst IsSendCause q (refusal_sends c r payload to x w)
+
+told_cause : (c : Context) (ep : ℕ) (payload : List ℕ) (to : Option ℕ) (e : Endpoint) → (send c ep payload to e).told ≡ send_told c (send_cause c payload to e)
+told_cause c ep payload to Free = refl
+told_cause c ep payload to (Receives r) = refl
+told_cause c ep payload to (Reaches r) = refl
+told_cause c ep payload to (Sends r) = by_why (send_refusal c r payload to)
+  where
+    by_why : (o : Option Refusal) → (unless o c (record { told = Told.Flies (next_id c); packet = Some (send_packet c r payload to); context = with_endpoint (launched c Sending ep 0) ep (Sends (less_one r)) })).told ≡ send_told c o
+    by_why None = refl
+    by_why (Some x) = refl
+
+pub sends_told : SendsTold
+sends_told s a ep payload to n c there e = by_issue (issue c (Command.Send ep payload to)) (λ i f. ap (λ z. z.told) (sym (came_through (is_busy c) _ i f)) ∙ told_cause c ep payload to (endpoint c ep)) (subst (λ (o : Option Context). issue_in s o (Command.Send ep payload to) ≡ Some n) there e)
+  where
+    by_issue : (o : Option Issued) → ((i : Issued) → o ≡ Some i → i.told ≡ send_told c (send_cause c payload to (endpoint c ep))) → issued_in s o ≡ Some n → n.word ≡ At_issue (send_told c (send_cause c payload to (endpoint c ep)))
+    by_issue None h e = absurd (cc)
+    by_issue (Some i) h e =
+        let q : At_issue i.told ≡ n.word = (let z : record { word = At_issue i.told; state = record s { contexts = put_context i.context s.contexts; flights = with_packet i.packet s.flights } } ≡ n = cc in ap (λ k. k.word) z) in
+        sym q ∙ ap (λ t. At_issue t) (h i refl)
 
 pub send_causes : SendCauses
 send_causes s a ep payload to n why e w = by_context (context_of a s.contexts) e

@@ -23,7 +23,7 @@ use Rattle.m3_base.specs.declared.command.Command.{Command}
 use Rattle.m3_base.specs.declared.command.Reply.{Reply}
 use Rattle.m3_base.specs.Context.{Endpoint, Free, Sends, Receives, Reaches}
 use Rattle.m3_base.specs.Receive.{is_full}
-use Rattle.m3_base.specs.Issue.{Told}
+use Rattle.m3_base.specs.Issue.{Told, send_refusal, next_id}
 use Rattle.m3_base.specs.Steps.{At_issue, Next, istep}
 
 -- live or closing
@@ -147,6 +147,25 @@ IsSendCause why = ⊥
 
 abbrev pub SendCauses : Type 0
 SendCauses = (s : State) (a ep : ℕ) (payload : List ℕ) (to : Option ℕ) (n : Next) (why : Refusal) → istep s (Step.Issue a (Command.Send ep payload to)) ≡ Some n → n.word ≡ At_issue (Told.Gives (Reply.Refused why)) → IsSendCause why
+
+-- the first cause for which a send through this endpoint is refused
+abbrev pub send_cause : Context → List ℕ → Option ℕ → Endpoint → Option Refusal
+send_cause c payload to (Sends r) = send_refusal c r payload to
+send_cause c payload to Free = Some Refusal.NoEndpoint
+send_cause c payload to (Receives r) = Some Refusal.NoEndpoint
+send_cause c payload to (Reaches r) = Some Refusal.NoEndpoint
+
+abbrev pub send_told : Context → Option Refusal → Told
+send_told c None = Told.Flies (next_id c)
+send_told c (Some why) = Told.Gives (Reply.Refused why)
+
+-- each send that is issued is refused exactly with its first cause, and flies where it has none
+abbrev pub SendsTold : Type 0
+SendsTold =
+    (s : State) (a ep : ℕ) (payload : List ℕ) (to : Option ℕ) (n : Next) (c : Context)
+    → context_of a s.contexts ≡ Some c
+    → istep s (Step.Issue a (Command.Send ep payload to)) ≡ Some n
+    → n.word ≡ At_issue (send_told c (send_cause c payload to (endpoint c ep)))
 
 abbrev pub has_no_slot : Endpoint → Bool
 has_no_slot (Receives r) = is_full r
