@@ -19,7 +19,7 @@ use Rattle.m3_base.specs.declared.packet.Packet.{Packet}
 use Rattle.m3_base.specs.Context.{Context}
 use Rattle.m3_base.specs.Entries.{SaysBy, steps_of, ran_to}
 use Rattle.m3_base.specs.Places.{target, is_here, pstep}
-use Rattle.m3_machine.specs.Parts.{tile_of, Site, Tile, Deed, says, is_idle, Parcel, Data, Save, Saved, Restore, Yield, Closed}
+use Rattle.m3_kernel.specs.Parts.{tile_of, Site, Tile, Deed, says, is_idle, Parcel, Data, Save, Saved, Restore, Yield, Closed}
 use Rattle.m3_machine.specs.Tile.{act_in, do_issued, do_at, take_arrived, take_here, take_data, arrive_named}
 use Rattle.m3_machine.specs.Machine.{Machine, Did, Part, Is_kernel, Is_memory, Is_tile, tile_at, link_at, mstep, part_at, part_step, tile_for_event, took, popped, front, done_by}
 use Rattle.m3_machine.specs.At.{at, places_of}

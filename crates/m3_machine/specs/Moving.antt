@@ -4,7 +4,7 @@ use Rattle.m3_base.specs.declared.event.Event.{Event}
 use Rattle.m3_base.specs.declared.event.Entry.{Entry}
 use Rattle.m3_merge.specs.Parts.{Item, Moves}
 use Rattle.m3_merge.specs.Parts as merge
-use Rattle.m3_machine.specs.Parts.{Site, Parcel}
+use Rattle.m3_kernel.specs.Parts.{Site, Parcel}
 use Rattle.m3_machine.specs.Machine.{Machine, Part, part_at, part_step, tile_for_event}
 
 abbrev pub parcel_of : Option (ℕ × Parcel) → Option Parcel
