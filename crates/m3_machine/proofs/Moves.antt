@@ -302,7 +302,7 @@ module _ (h : Site) (m : Machine) (e : Event) (d : Deed Part) (tiles : length m.
 
 -- ---- any step that no program makes
 
-tile_below : (h : Site) → IsSetup h → (a : ℕ) (o : Option Home) → home_of a h ≡ o → tile_in o < 16
+pub tile_below : (h : Site) → IsSetup h → (a : ℕ) (o : Option Home) → home_of a h ≡ o → tile_in o < 16
 tile_below h setup a None e = omega arith
 tile_below h setup a (Some y) e = (setup.tiles a y e).1
 

@@ -2,6 +2,7 @@
 use Rattle.std.specs.Prelude.{◌≡◌, ◌<◌, List, [], ◌∷◌}
 use Rattle.m3_base.specs.declared.event.Event.{Event}
 use Rattle.m3_base.specs.declared.event.Entry.{Entry}
+use Rattle.m3_base.specs.declared.order.Order.{Order}
 use Rattle.m3_base.specs.Entries.{Says, next_state, after, IsRun}
 use Rattle.m3_base.specs.State.{State}
 use Rattle.m3_base.specs.Places.{Places}
@@ -18,9 +19,10 @@ pub record IsKept (h : Site) (m : Machine) : Type 0 where
   pub sound : IsSound h m
   pub law : QuietInvariant (at m)
 
--- the tiles of a take
+-- the tiles of a take, and of a switch
 abbrev pub IsWithin : Event → Type 0
 IsWithin (Event.Take to from) = (to < 16) × (from < 16)
+IsWithin (Event.Order (Order.Switch t a)) = t < 16
 IsWithin event = Unit {0}
 
 -- the entry says what its ideal steps say, they lead to the state that the machine then stands for, it is a step of the

@@ -1,8 +1,9 @@
 -- Next numbers and next tokens stay below the number of entries.
-use Rattle.std.specs.Prelude.{ℕ, ◌+◌, ◌<◌, ◌≤◌, List, length, slice_index_or, Option, Some, None}
+use Rattle.std.specs.Prelude.{◌≡◌, ℕ, true, ◌+◌, ◌<◌, ◌≤◌, List, ◌∷◌, length, slice_index_or, Option, Some, None}
 use Rattle.m3_base.specs.Context.{Context, endpoint}
-use Rattle.m3_kernel.specs.Parts.{Tile}
-use Rattle.m3_kernel.specs.Naming.{next_token_at}
+use Rattle.m3_kernel.specs.Parts.{Heard, Parcel, Restore, Tile}
+use Rattle.m3_machine.specs.Machine.{Machine, link_at}
+use Rattle.m3_kernel.specs.Naming.{next_token_at, has_low_numbers}
 
 -- next numbers and next tokens, where the journal has n entries
 pub record HasLow (n : ℕ) (c : Context) : Type 0 where
@@ -15,3 +16,7 @@ LowIn n (Some c) = HasLow n c
 
 abbrev pub AreLow : ℕ → List Tile → Type 0
 AreLow n tiles = (t : ℕ) (d : Tile) → t < length tiles → LowIn n (slice_index_or tiles t d).current
+
+-- the contexts that come back have numbers that a tile takes
+abbrev pub LowComes : Machine → Type 0
+LowComes m = (t from : ℕ) (c : Context) (xs : List Heard) (qs : List Parcel) → link_at from t m ≡ Restore c xs ∷ qs → has_low_numbers c ≡ true

@@ -1,6 +1,7 @@
 -- A machine with its setup and its journal, and what one step of it is.
 use Rattle.std.specs.Prelude.{◌≡◌, ℕ, ◌+◌, ◌*◌, ◌≤◌, true, List, [], ◌∷◌, ◌++◌, length, slice_index_or, slice_set, Option, Some, None}
 use Rattle.m3_base.specs.declared.event.Event.{Event}
+use Rattle.m3_base.specs.declared.order.Order.{Order}
 use Rattle.m3_base.specs.declared.event.Outcome.{Outcome}
 use Rattle.m3_base.specs.declared.event.Entry.{Entry}
 use Rattle.m3_base.specs.declared.ids.FlightId.{FlightId}
@@ -14,7 +15,7 @@ use Rattle.std.specs.declared.alloc.Global.{Global}
 use Rattle.m3_core.specs.declared.parcel.Emit.{Emit}
 use Rattle.m3_core.specs.declared.parcel.Parcel.{Parcel as CodeParcel}
 use Rattle.m3_kernel.specs.Parcels.{parcels_of}
-use Rattle.m3_machine.specs.Low.{AreLow}
+use Rattle.m3_machine.specs.Low.{AreLow, LowComes}
 use Rattle.m3_machine.specs.Links.{place, lists_in, HasRoom}
 use Rattle.m3_machine.specs.Machine.{Machine, link_at, mstep, opened_machine}
 use Rattle.m3_kernel.specs.Sites.{site_of}
@@ -64,10 +65,14 @@ pub record Steps (old : Whole) (e : Event) (new : Whole) : Type 0 where
   pub added : new.entries ≡ old.entries ++ entry e outcome ∷ []
   pub moved : mstep (site old.setup) old.machine e None ≡ Some (record { outcome = outcome; machine = new.machine })
   pub setup : new.setup ≡ old.setup
+  -- what comes back to a tile has numbers that it takes
+  pub low : LowComes old.machine
 
--- a command is of an activity of the setup
+-- the event names activities of the setup alone
 abbrev pub IsOfSetup : Site → Event → Type 0
 IsOfSetup h (Event.Do a c) = is_home h a ≡ true
+IsOfSetup h (Event.Tend a) = is_home h a ≡ true
+IsOfSetup h (Event.Order (Order.Switch t a)) = is_home h a ≡ true
 IsOfSetup h event = Unit {0}
 
 -- data is at the front
@@ -86,16 +91,13 @@ IsUnserved m (Event.Do a c) = ⊥
 IsUnserved m (Event.Take to from) = HasParcel (link_at from to m) × (2 ≤ to → IsData (link_at from to m) → ⊥)
 IsUnserved m event = Unit {0}
 
-abbrev pub ServesLink : ℕ → List Parcel → Type 0
-ServesLink to [] = Unit {0}
-ServesLink to (Data p ∷ ps) = 2 ≤ to
-ServesLink to (q ∷ ps) = ⊥
-
--- the machine of today makes commands, and takes of nothing and of data for tiles from 2 on
-abbrev pub IsServed : Machine → Event → Type 0
-IsServed m (Event.Do a c) = Unit {0}
-IsServed m (Event.Take to from) = ServesLink to (link_at from to m)
-IsServed m event = ⊥
+-- the events that a machine without programs makes whose grants stay as they are: commands, takes, tends and switches
+abbrev pub IsServed : Event → Type 0
+IsServed (Event.Do a c) = Unit {0}
+IsServed (Event.Take to from) = Unit {0}
+IsServed (Event.Tend a) = Unit {0}
+IsServed (Event.Order (Order.Switch t a)) = Unit {0}
+IsServed event = ⊥
 
 abbrev pub IsNamedAt : FlightId → List Parcel → Type 0
 IsNamedAt id [] = ⊥

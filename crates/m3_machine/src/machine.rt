@@ -138,7 +138,7 @@ impl Machine {
     pub fn step(&mut self, alloc: Global, event: Event) -> Result<(), StepRefusal>
         requires { IsOfSetup (site self.old.setup) event }
         ensures ok { OnOk result (Steps self.old event self.new) }
-        ensures served { OnOk result (IsServed self.old.machine event) }
+        ensures served { OnOk result (IsServed event) }
         ensures err { OnErr result (self.new ≡ self.old) }
         ensures spent { result ≡ Err StepRefusal.Spent ↔ length self.old.entries ≡ 2097152 }
         ensures unserved { result ≡ Err StepRefusal.Unserved → IsUnserved self.old.machine event }
@@ -181,7 +181,7 @@ impl Machine {
     fn take(&mut self, to: TileId, from: TileId) -> Result<(), StepRefusal>
         requires room { length self.old.entries < 2097152 }
         ensures ok { OnOk result (Steps self.old (Event.Take to from) self.new) }
-        ensures served { OnOk result (IsServed self.old.machine (Event.Take to from)) }
+        ensures served { OnOk result (IsServed (Event.Take to from)) }
         ensures err { OnErr result (self.new ≡ self.old) }
         ensures memory { IfErr result (λ e. e ≢ StepRefusal.Spent) }
         ensures unserved { result ≡ Err StepRefusal.Unserved → IsUnserved self.old.machine (Event.Take to from) }
@@ -204,7 +204,7 @@ impl Machine {
         requires high { 2 ≤ to }
         requires front { HasFront self.old.machine from to id }
         ensures ok { OnOk result (Steps self.old (Event.Take to from) self.new) }
-        ensures served { OnOk result (IsServed self.old.machine (Event.Take to from)) }
+        ensures served { OnOk result (IsServed (Event.Take to from)) }
         ensures err { OnErr result (self.new ≡ self.old) }
         ensures memory { IfErr result (λ e. e ≡ StepRefusal.NoMemory) }
     {
