@@ -1,0 +1,6 @@
+//! The memory: its bytes, and what reads and writes do to them.
+#![tactic(auto)]
+
+pub mod memory;
+#[cfg(test)]
+mod tests;
