@@ -1,20 +1,83 @@
--- The last of the lines that close a machine's journal: on tiles, on flights, and whether nothing is to be taken.
-use Rattle.std.specs.Prelude.{◌≡◌, ℕ, List, [], ◌∷◌, ◌++◌, length, min, is_none}
+-- The lines that close a machine's journal: on credits, on tiles, on flights, and whether nothing is to be done.
+use Rattle.std.specs.Prelude.{◌≡◌, ℕ, ◌+◌, ◌<◌, List, [], ◌∷◌, ◌++◌, length, min, is_none, slice_index_or, Option, Some, None}
 use Rattle.m3_base.specs.declared.journal.AuditLine.{AuditLine}
+use Rattle.m3_base.specs.declared.packet.Packet.{Packet}
+use Rattle.m3_base.specs.declared.packet.Fresh.{Fresh}
+use Rattle.m3_base.specs.Context.{Context}
+use Rattle.m3_base.specs.State.{Grant}
+use Rattle.m3_base.specs.Setup.{facts_of}
+use Rattle.m3_endpoint.specs.Counts.{most}
+use Rattle.m3_kernel.specs.Parts.{Tile, Parcel}
+use Rattle.m3_machine.specs.declared.tally.Tally.{Tally}
 use Rattle.m3_machine.specs.Machine.{Machine}
-use Rattle.m3_machine.specs.At.{on_links, packets_in}
+use Rattle.m3_machine.specs.At.{each, on_links, here, contexts_in, packets_in}
+use Rattle.m3_machine.specs.Tally.{last_of, held, flying, queued}
 use Rattle.m3_machine.specs.Next.{tile_lines, next_take}
 use Rattle.m3_machine.specs.Whole.{Whole}
+
+-- ---- what is counted
+
+-- the contexts on tiles and on links, and the packets on links
+abbrev pub contexts_on : List Tile → List (List Parcel) → List Context
+contexts_on tiles links = each here tiles ++ on_links contexts_in links
+
+abbrev pub packets_on : List (List Parcel) → List Packet
+packets_on links = on_links packets_in links
+
+pub record AreCounts (f : ℕ → ℕ) (counts : List ℕ) : Type 0 where
+  pub size : length counts ≡ 4097
+  pub same : (g : ℕ) → g < 4097 → slice_index_or counts g 0 ≡ min most (f g)
+
+-- one count for each number up to 4,096
+pub record IsSized (t : Tally) : Type 0 where
+  pub held_size : length t.held.items ≡ 4097
+  pub flying_size : length t.flying.items ≡ 4097
+  pub queued_size : length t.queued.items ≡ 4097
+
+-- the counts of these contexts and these packets
+pub record IsTally (cs : List Context) (ps : List Packet) (t : Tally) : Type 0 where
+  pub held_are : AreCounts (λ g. held g cs ps) t.held.items
+  pub flying_are : AreCounts (λ g. flying g (λ a. last_of None a cs) ps) t.flying.items
+  pub queued_are : AreCounts (λ g. queued g cs) t.queued.items
+
+-- ---- the lines on credits
+
+-- the credits of grants by number: held, flying and queued
+module _ (held flying queued : ℕ → ℕ) where
+  -- the line of a send grant
+  abbrev pub credit_line : ℕ → Fresh → List AuditLine
+  credit_line g (Fresh.Send h to to_ep to_grant label size limit) = AuditLine.Credit g (held g) (flying g) (queued g) limit ∷ []
+  credit_line g f = []
+
+  -- of these grants, the first of which has the number g
+  abbrev pub credit_lines_from : ℕ → List Grant → List AuditLine
+  credit_lines_from g [] = []
+  credit_lines_from g (x ∷ xs) = credit_line g x.fresh ++ credit_lines_from (g + 1) xs
+
+-- as a tally has them
+abbrev pub tally_line : Tally → ℕ → Fresh → List AuditLine
+tally_line t = credit_line (λ g. slice_index_or t.held.items g 0) (λ g. slice_index_or t.flying.items g 0) (λ g. slice_index_or t.queued.items g 0)
+
+abbrev pub tally_lines : Tally → ℕ → List Grant → List AuditLine
+tally_lines t = credit_lines_from (λ g. slice_index_or t.held.items g 0) (λ g. slice_index_or t.flying.items g 0) (λ g. slice_index_or t.queued.items g 0)
+
+abbrev pub line_at : Tally → ℕ → Option Grant → List AuditLine
+line_at t g None = []
+line_at t g (Some x) = tally_line t g x.fresh
+
+-- as these contexts and these packets have them
+abbrev pub credit_lines : List Context → List Packet → List Grant → List AuditLine
+credit_lines cs ps =
+    credit_lines_from (λ g. min most (held g cs ps)) (λ g. min most (flying g (λ a. last_of None a cs) ps)) (λ g. min most (queued g cs)) 1
+
+-- ---- all lines
 
 -- the packets on all links
 abbrev pub flights : Machine → ℕ
 flights m = length (on_links packets_in m.links)
 
-abbrev pub last_lines : Whole → List AuditLine
-last_lines w =
-    tile_lines w.setup.tiles w.machine.tiles
-    ++ AuditLine.Flights (min 4294967295 (flights w.machine)) ∷ AuditLine.Quiet (is_none (next_take w.machine)) ∷ []
-
-pub record EndsWith (lines last : List AuditLine) : Type 0 where
-  pub before : List AuditLine
-  pub parts : lines ≡ before ++ last
+abbrev pub lines : Whole → List AuditLine
+lines w =
+    credit_lines (contexts_on w.machine.tiles w.machine.links) (packets_on w.machine.links) (facts_of w.setup).grants
+    ++ tile_lines w.setup.tiles w.machine.tiles
+    ++ AuditLine.Flights (min most (flights w.machine)) ∷ AuditLine.Quiet (is_none (next_take w.machine)) ∷ []

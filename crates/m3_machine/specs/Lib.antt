@@ -19,3 +19,4 @@ pub mod Seated
 pub mod Next
 pub mod Closing
 pub mod Fronts
+pub mod Tally

@@ -7,5 +7,7 @@ pub mod links;
 pub mod machine;
 mod next;
 mod opening;
+mod roster;
 mod shown;
+mod tally;
 pub mod tile;
