@@ -3,6 +3,7 @@
 
 mod commands;
 mod events;
+mod fields;
 mod line;
 mod parsing;
 mod reading;
