@@ -13,4 +13,6 @@ mod setups;
 pub use journals::print;
 
 #[cfg(test)]
+mod line_tests;
+#[cfg(test)]
 mod tests;
