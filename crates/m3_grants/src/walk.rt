@@ -56,8 +56,8 @@ fn visit(nodes: &mut Nodes, pending: &mut Vec<GrantId>, g: GrantId)
     let previous = nodes.previous(g);
     wait(pending, previous);
     if is_live(nodes, g) {
-        let child = close(nodes, g);
-        wait(pending, child);
+        let last = close(nodes, g);
+        wait(pending, last);
     }
 }
 

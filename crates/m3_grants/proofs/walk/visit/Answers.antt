@@ -12,14 +12,14 @@ wait-requires-then-is_live c =
 pub returns-then-is_live-clause-walks : goal.returns-then-is_live-clause-walks
 returns-then-is_live-clause-walks c root before k =
     let live : is_live_node (slice_get c.args.nodes.now (c.args.g - 1)) ≡ true = sym c.is_live.ensures ∙ c.if-is_live.true in
-    let all = c.wait-then-is_live.ensures.items ∙ ap (λ p. p ++ option_to_list c.close-child.result) c.wait.ensures.items in
-    rw all (walks_closed root before c.args.nodes.now c.close-child.new.nodes c.args.pending.now.items c.args.g c.previous-previous.result c.close-child.result k live c.previous-previous.ensures c.close-child.ensures.nodes c.close-child.ensures.last)
+    let all = c.wait-then-is_live.ensures.items ∙ ap (λ p. p ++ option_to_list c.close-last.result) c.wait.ensures.items in
+    rw all (walks_closed root before c.args.nodes.now c.close-last.new.nodes c.args.pending.now.items c.args.g c.previous-previous.result c.close-last.result k live c.previous-previous.ensures c.close-last.ensures.nodes c.close-last.ensures.last)
 
 pub returns-then-is_live-clause-nearer : goal.returns-then-is_live-clause-nearer
 returns-then-is_live-clause-nearer c root before k =
     let live : is_live_node (slice_get c.args.nodes.now (c.args.g - 1)) ≡ true = sym c.is_live.ensures ∙ c.if-is_live.true in
-    let all = c.wait-then-is_live.ensures.items ∙ ap (λ p. p ++ option_to_list c.close-child.result) c.wait.ensures.items in
-    rw all (nearer_closed root before c.args.nodes.now c.close-child.new.nodes c.args.pending.now.items c.args.g c.previous-previous.result c.close-child.result k live c.previous-previous.ensures c.close-child.ensures.nodes c.close-child.ensures.last c.close-child.ensures.few)
+    let all = c.wait-then-is_live.ensures.items ∙ ap (λ p. p ++ option_to_list c.close-last.result) c.wait.ensures.items in
+    rw all (nearer_closed root before c.args.nodes.now c.close-last.new.nodes c.args.pending.now.items c.args.g c.previous-previous.result c.close-last.result k live c.previous-previous.ensures c.close-last.ensures.nodes c.close-last.ensures.last c.close-last.ensures.few)
 
 pub returns-else-is_live-clause-walks : goal.returns-else-is_live-clause-walks
 returns-else-is_live-clause-walks c root before k =
