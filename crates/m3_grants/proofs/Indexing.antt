@@ -1,6 +1,7 @@
 -- What is kept beside the list of grants stays right as they are made and changed.
 use Rattle.std.proofs.Common.{◌≡◌, ℕ, zero, suc, ◌+◌, ◌<◌, Bool, true, false, not, ◌&&◌, ◌||◌, List, [], ◌∷◌, ◌++◌, length, Some, None, refl, sym, ◌∙◌, ap, subst, arith}
 use Rattle.std.specs.Prelude.{Option, if◌then◌else◌, ◌==◌, slice_get, slice_set}
+use Rattle.std.proofs.lemmas.List.{map-append}
 use Rattle.std.proofs.lemmas.Option.{slice_get_past, slice_get_within}
 use Rattle.std.proofs.lemmas.Bool.Decides.{nat_tests}
 use Rattle.m3_base.specs.declared.order.GrantLine.{GrantLine}
@@ -10,28 +11,22 @@ use Rattle.m3_grants.specs.declared.node.Node.{Node}
 use Rattle.m3_grants.specs.PlaceSet.{has_place, IsFirst}
 use Rattle.m3_grants.specs.Nodes.{new_node, is_due, first_due}
 use Rattle.m3_grants.specs.Index.{is_due_in, parents_of, HasParent, IsIndexed}
-use Rattle.m3_grants.proofs.Lookups.{get_set_within, length_set}
+use Rattle.m3_grants.proofs.Lookups.{get_set_within, length_set, mapped_same}
 use Rattle.m3_grants.proofs.Making.{get_pushed, length_pushed}
 
-length_parents : (nodes : List Node) → length (parents_of nodes) ≡ length nodes
-length_parents [] = refl
-length_parents (x ∷ xs) = grind (arith, length_parents xs)
-
 parents_put : (nodes : List Node) (i : ℕ) (y : Node) → HasParent (parent_of y.line) (slice_get nodes i) → parents_of (slice_set nodes i y) ≡ parents_of nodes
-parents_put [] i y h = absurd h
-parents_put (x ∷ xs) zero y h = grind (arith, h)
-parents_put (x ∷ xs) (suc i) y h = ap (λ z. parent_of x.line ∷ z) (parents_put xs i y h)
-
-parents_pushed : (nodes : List Node) (x : Node) → parents_of (nodes ++ x ∷ []) ≡ parents_of nodes ++ parent_of x.line ∷ []
-parents_pushed [] x = refl
-parents_pushed (y ∷ ys) x = ap (λ z. parent_of y.line ∷ z) (parents_pushed ys x)
+parents_put nodes i y h = by_node (slice_get nodes i) refl h
+  where
+    by_node : (o : Option Node) → slice_get nodes i ≡ o → HasParent (parent_of y.line) o → parents_of (slice_set nodes i y) ≡ parents_of nodes
+    by_node None e k = absurd k
+    by_node (Some x) e k = mapped_same (λ z. parent_of z.line) nodes i x y e k
 
 pub indexed_pushed : (nodes : List Node) (due : List ℕ) (links : List (Option ℕ)) (line : GrantLine) (fresh : Fresh) → IsIndexed nodes due links → length nodes < 4096 → IsIndexed (nodes ++ new_node line fresh ∷ []) due (links ++ parent_of line ∷ [])
 indexed_pushed nodes due links line fresh x h =
     record {
       few = let l = length_pushed nodes (new_node line fresh) in omega (arith, h, l);
       closes = λ i. x.closes i ∙ rw (get_pushed nodes (new_node line fresh) i) (by_place i (i == length nodes) refl);
-      parents = ap (λ ps. ps ++ parent_of line ∷ []) x.parents ∙ sym (parents_pushed nodes (new_node line fresh));
+      parents = ap (λ ps. ps ++ parent_of line ∷ []) x.parents ∙ sym (map-append (λ x. parent_of x.line) nodes (new_node line fresh ∷ []));
     }
   where
     by_place : (i : ℕ) (b : Bool) → (i == length nodes) ≡ b → is_due_in (slice_get nodes i) ≡ is_due_in (if b then Some (new_node line fresh) else slice_get nodes i)

@@ -10,4 +10,5 @@ pub mod Finishing
 pub mod Opening
 pub mod Marks
 pub mod Revoking
+pub mod Waiting
 pub mod Walking

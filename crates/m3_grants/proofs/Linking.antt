@@ -1,6 +1,7 @@
 -- The links stay right as a grant is made.
 use Rattle.std.proofs.Common.{◌≡◌, ℕ, zero, suc, ◌+◌, ◌-◌, ◌<◌, ◌≤◌, Bool, true, false, List, [], ◌∷◌, ◌++◌, length, Some, None, refl, sym, ◌∙◌, ap, subst, arith, get_or}
-use Rattle.std.specs.Prelude.{Option, if◌then◌else◌, ◌==◌, slice_get, slice_set}
+use Rattle.std.specs.Prelude.{Option, if◌then◌else◌, ◌==◌, slice_get}
+use Rattle.std.proofs.lemmas.List.{map-append, length-map}
 use Rattle.std.proofs.lemmas.Option.{slice_get_within}
 use Rattle.std.proofs.lemmas.Bool.Decides.{nat_tests}
 use Rattle.m3_base.specs.State.{is_number}
@@ -8,26 +9,19 @@ use Rattle.m3_grants.specs.declared.links.Link.{Link}
 use Rattle.m3_grants.specs.Nodes.{is_before}
 use Rattle.m3_grants.specs.Links.{is_under, IsLast, IsPrevious}
 use Rattle.m3_grants.specs.Linked.{parents_in, SaysKin, IsLinked, last_before, last_in, with_child, set_last, with_last}
-use Rattle.m3_grants.proofs.Lookups.{get_set, length_set}
+use Rattle.m3_grants.proofs.Lookups.{get_set, length_set, read, mapped_at, mapped_same}
 use Rattle.m3_grants.proofs.Making.{get_pushed, length_pushed, get_none}
 
 -- ---- parents
 
-abbrev pub parent_in : Option Link → Option ℕ
-parent_in None = None
-parent_in (Some l) = l.parent
-
-pub parent_at : (links : List Link) (i : ℕ) → get_or (parents_in links) i None ≡ parent_in (slice_get links i)
-parent_at [] i = refl
-parent_at (x ∷ xs) zero = refl
-parent_at (x ∷ xs) (suc i) = grind (arith, parent_at xs i)
+abbrev parent_in : Option Link → Option ℕ
+parent_in = read (λ l. l.parent)
 
 pub length_parents : (links : List Link) → length (parents_in links) ≡ length links
-length_parents [] = refl
-length_parents (x ∷ xs) = grind (arith, length_parents xs)
+length_parents links = length-map links (λ l. l.parent)
 
 pub before_at : (links : List Link) → IsLinked links → (i : ℕ) → is_before (get_or (parents_in links) i None) i ≡ true
-before_at links k i = rw (parent_at links i) (by_link (slice_get links i) (k.kin i))
+before_at links k i = rw (mapped_at (λ l. l.parent) links i) (by_link (slice_get links i) (k.kin i))
   where
     by_link : (o : Option Link) → SaysKin (parents_in links) i o → is_before (parent_in o) i ≡ true
     by_link None s = refl
@@ -89,25 +83,16 @@ new_link links p = record { parent = p; previous = last_before links p; last_chi
 abbrev pub linked : List Link → Option ℕ → ℕ → List Link
 linked links p c = with_last links p c ++ new_link links p ∷ []
 
-parents_set : (links : List Link) (i : ℕ) (l : Link) (c : Option ℕ) → slice_get links i ≡ Some l → parents_in (slice_set links i (with_child c l)) ≡ parents_in links
-parents_set [] i l c e = absurd (cc)
-parents_set (x ∷ xs) zero l c e = grind (arith, e)
-parents_set (x ∷ xs) (suc i) l c e = grind (arith, parents_set xs i l c e)
-
 parents_last : (links : List Link) (p : Option ℕ) (c : ℕ) → parents_in (with_last links p c) ≡ parents_in links
 parents_last links None c = refl
 parents_last links (Some g) c = by_link (slice_get links (g - 1)) refl
   where
     by_link : (o : Option Link) → slice_get links (g - 1) ≡ o → parents_in (set_last links (g - 1) c o) ≡ parents_in links
     by_link None e = refl
-    by_link (Some l) e = parents_set links (g - 1) l (Some c) e
-
-parents_pushed : (links : List Link) (l : Link) → parents_in (links ++ l ∷ []) ≡ parents_in links ++ l.parent ∷ []
-parents_pushed [] l = refl
-parents_pushed (x ∷ xs) l = ap (λ z. x.parent ∷ z) (parents_pushed xs l)
+    by_link (Some l) e = mapped_same (λ k. k.parent) links (g - 1) l (with_child (Some c) l) e refl
 
 pub parents_linked : (links : List Link) (p : Option ℕ) (c : ℕ) → parents_in (linked links p c) ≡ parents_in links ++ p ∷ []
-parents_linked links p c = parents_pushed (with_last links p c) (new_link links p) ∙ ap (λ z. z ++ p ∷ []) (parents_last links p c)
+parents_linked links p c = map-append (λ l. l.parent) (with_last links p c) (new_link links p ∷ []) ∙ ap (λ z. z ++ p ∷ []) (parents_last links p c)
 
 length_last : (links : List Link) (p : Option ℕ) (c : ℕ) → length (with_last links p c) ≡ length links
 length_last links None c = refl

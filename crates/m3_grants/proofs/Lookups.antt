@@ -1,5 +1,5 @@
 -- The nodes and the list of grants that they stand for.
-use Rattle.std.proofs.Common.{cond, ◌≡◌, ℕ, zero, suc, ◌+◌, ◌-◌, ◌<◌, ◌≤◌, Bool, true, false, List, [], ◌∷◌, length, Some, None, refl, sym, ◌∙◌, ap, subst, arith}
+use Rattle.std.proofs.Common.{cond, ◌≡◌, ℕ, zero, suc, ◌+◌, ◌-◌, ◌<◌, ◌≤◌, Bool, true, false, List, [], ◌∷◌, length, map, Some, None, refl, sym, ◌∙◌, ap, subst, arith}
 use Rattle.std.specs.Prelude.{Option, if◌then◌else◌, ◌==◌, slice_get, slice_set, slice_index_or, is_some, count_by}
 use Rattle.std.specs.List.{list_any}
 use Rattle.std.proofs.lemmas.List.Sums.{sum_by-cons}
@@ -66,6 +66,21 @@ get_set_within (z ∷ zs) zero zero y h = refl
 get_set_within (z ∷ zs) zero (suc k) y h = grind (arith, nat_tests)
 get_set_within (z ∷ zs) (suc i) zero y h = grind (arith, nat_tests)
 get_set_within (z ∷ zs) (suc i) (suc k) y h = grind (arith, nat_tests, get_set_within zs i k y (omega (arith, h)))
+
+-- what is listed of each, at a place
+abbrev pub read : {X : Type 0} → (X → Option ℕ) → Option X → Option ℕ
+read f None = None
+read f (Some x) = f x
+
+pub mapped_at : {X : Type 0} (f : X → Option ℕ) (xs : List X) (i : ℕ) → slice_index_or (map f xs) i None ≡ read f (slice_get xs i)
+mapped_at f [] i = refl
+mapped_at f (x ∷ xs) zero = refl
+mapped_at f (x ∷ xs) (suc i) = mapped_at f xs i
+
+pub mapped_same : {X : Type 0} (f : X → Option ℕ) (xs : List X) (i : ℕ) (x y : X) → slice_get xs i ≡ Some x → f y ≡ f x → map f (slice_set xs i y) ≡ map f xs
+mapped_same f [] i x y e h = absurd (cc)
+mapped_same f (z ∷ zs) zero x y e h = let s : z ≡ x = grind (arith, e) in ap (λ p. p ∷ map f zs) (h ∙ ap f (sym s))
+mapped_same f (z ∷ zs) (suc i) x y e h = ap (λ p. f z ∷ p) (mapped_same f zs i x y e h)
 
 -- ---- one grant changed
 

@@ -52,6 +52,7 @@ fn lowest(word: u64) -> usize
 }
 
 impl PlaceSet {
+    /// Of none.
     pub fn new(alloc: Global) -> Result<PlaceSet, AllocError>
         ensures { IfOk result (λ s. (i : ℕ) → has_place s i ≡ false) }
     {
@@ -60,6 +61,7 @@ impl PlaceSet {
         Ok(PlaceSet { words, filled: 0 })
     }
 
+    /// The place is in it.
     pub fn insert(&mut self, at: usize)
         requires { at < 4096 }
         ensures { (i : ℕ) → has_place self.new i ≡ (i == at || has_place self.old i) }
@@ -69,6 +71,7 @@ impl PlaceSet {
         self.filled = with_bit(self.filled, w);
     }
 
+    /// The place isn't in it.
     pub fn remove(&mut self, at: usize)
         requires { at < 4096 }
         ensures { (i : ℕ) → has_place self.new i ≡ (not (i == at) && has_place self.old i) }

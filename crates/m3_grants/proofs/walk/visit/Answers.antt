@@ -1,7 +1,8 @@
 use Rattle.std.proofs.Common.{◌≡◌, ◌∙◌, ◌-◌, ◌++◌, true, false, option_to_list, sym, ap, arith}
 use Rattle.std.specs.Prelude.{slice_get}
 use Rattle.m3_grants.specs.Nodes.{is_live_node}
-use Rattle.m3_grants.proofs.Walking.{walks_passed, walks_closed, nearer_passed, nearer_closed, live_some, at_most_one}
+use Rattle.m3_grants.proofs.Waiting.{live_some}
+use Rattle.m3_grants.proofs.Walking.{walks_passed, walks_closed, nearer_passed, nearer_closed, at_most_one}
 use Rattle.m3_grants.proofs.walk.visit.Goals as goal
 
 pub wait-requires-then-is_live : goal.wait-requires-then-is_live
