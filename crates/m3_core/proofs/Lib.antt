@@ -2,3 +2,4 @@ pub mod Sound
 pub mod Refused
 pub mod Places
 pub mod Credits
+pub mod Totals

@@ -27,6 +27,9 @@ pub record IsSendPlace (es : List Endpoint) (g i : ℕ) : Type 0 where
   pub record_ : send_of g es ≡ send_at (slice_index_or es i Free)
   pub given : credited g es ≡ slice_set es i (more_at (slice_index_or es i Free))
 
+abbrev pub held_in : SendRecord → ℕ
+held_in r = r.held
+
 -- what holds where no endpoint has the send grant g
 pub record IsNoSend (es : List Endpoint) (g : ℕ) : Type 0 where
   pub nowhere : list_any (sends_by g) es ≡ false

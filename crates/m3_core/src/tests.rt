@@ -48,6 +48,8 @@ fn a_message_to_itself_lands(rt: HostRuntime) {
     };
     assert!(rt; landed);
     assert!(rt; context.busy());
+    assert_eq!(rt; context.held(GrantId::new(2)), Some(1));
+    assert_eq!(rt; context.queued(GrantId::new(2)), 1);
     let mut held = [0; 3];
     let mut queued = [0; 3];
     context.count(&mut held, &mut queued);

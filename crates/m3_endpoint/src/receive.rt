@@ -5,7 +5,7 @@ ghost use Rattle.m3_base.specs.Receive.{with_unread, freed, marking};
 ghost use Rattle.m3_base.specs.Fits.{is_form};
 ghost use Rattle.m3_base.specs.Credit.{is_sent_by};
 ghost use Rattle.m3_endpoint.specs.Forms.{receive_form};
-ghost use Rattle.m3_endpoint.specs.Receive.{empty_record, closing_one, is_full_one, HasToken, token_of_fetch, after_fetch, unread_at, token_in, message_at, unmarked_at, marked_at, header_or_refusal, reply_header, replied, grant_in, size_in, closing_in, next_token_in, unread_count, fetched_count, token_at};
+ghost use Rattle.m3_endpoint.specs.Receive.{empty_record, closing_one, is_full_one, HasToken, token_of_fetch, after_fetch, unread_at, token_in, message_at, unmarked_at, marked_at, header_or_refusal, reply_header, replied, grant_in, size_in, closing_in, next_token_in, unread_count, fetched_count, token_at, queued_in};
 
 mod readers;
 

@@ -1,13 +1,36 @@
 //! The credits of send grants, in one context.
 
+ghost use Rattle.std.specs.Prelude.{◌≡◌, ℕ, ◌≤◌, ◌*◌, length, option_map};
 ghost use Rattle.m3_base.specs.Sums.{total};
 ghost use Rattle.m3_base.specs.Credit.{held_at, queued_at};
+ghost use Rattle.m3_base.specs.Fits.{send_of};
+ghost use Rattle.m3_core.specs.Places.{held_in};
 ghost use Rattle.m3_endpoint.specs.Counts.{Adds};
 
 use crate::context::Context;
+use crate::context::arrive::send_place;
 use crate::slot::Slot;
+use m3_base::ids::GrantId;
 
 impl Context {
+    /// The credits held by the endpoint of this send grant. None exactly where no endpoint has it.
+    pub fn held(&self, grant: GrantId) -> Option<u8>
+        ensures { result ≡ option_map held_in (send_of grant self.now.endpoints) }
+    {
+        match send_place(&self.slots, grant.number() as u32) {
+            None => None,
+            Some(place) => self.slots[place].held(),
+        }
+    }
+
+    /// How many messages that were sent through this grant, and aren't replies, are unread, or fetched and not being
+    /// replied to.
+    pub fn queued(&self, grant: GrantId) -> u32
+        ensures { result ≡ total (queued_at grant) self.now.endpoints }
+    {
+        queued_in(&self.slots, grant)
+    }
+
     /// Adds, to the counts of their send grants, the credits that its records hold, and its messages that aren't replies
     /// and are unread, or fetched and not being replied to.
     pub fn count(&self, held: &mut [u32], queued: &mut [u32])
@@ -25,4 +48,15 @@ fn count_slots(slots: &[Slot], held: &mut [u32], queued: &mut [u32])
     for slot in slots {
         slot.count(held, queued);
     }
+}
+
+fn queued_in(slots: &[Slot], grant: GrantId) -> u32
+    requires { length slots.now ≤ 16 }
+    ensures { result ≡ total (queued_at grant) slots.now }
+{
+    let mut count = 0;
+    for slot in slots {
+        count += slot.queued(grant);
+    }
+    count
 }

@@ -1,10 +1,11 @@
 //! One endpoint's part of what comes for it.
 
-ghost use Rattle.std.specs.Prelude.{◌≡◌, ℕ, ◌≤◌, true, false, IsTrue};
+ghost use Rattle.std.specs.Prelude.{◌≡◌, ℕ, ◌≤◌, true, false, IsTrue, option_map};
 ghost use Rattle.m3_base.specs.Land.{land_refusal, sends_by, more_at, settled};
 ghost use Rattle.m3_base.specs.Fits.{takes_back, is_returned, is_message};
 ghost use Rattle.m3_base.specs.Credit.{held_at, queued_at};
 ghost use Rattle.m3_endpoint.specs.Counts.{Adds};
+ghost use Rattle.m3_core.specs.Places.{send_at, held_in};
 ghost use Rattle.m3_core.specs.FlyingView.{kind_of};
 ghost use Rattle.m3_core.specs.Slots.{joined_if, replied_at};
 
@@ -108,6 +109,27 @@ impl Slot {
             return;
         };
         r.end_reply(token, landed);
+    }
+
+    /// The credits held by its send record.
+    pub fn held(&self) -> Option<u8>
+        ensures { result ≡ option_map held_in (send_at self.now) }
+    {
+        match &self.occupant {
+            Record::Send(r) => Some(r.held()),
+            _ => None,
+        }
+    }
+
+    /// How many of its messages owe a credit of this grant.
+    pub fn queued(&self, grant: GrantId) -> u32
+        ensures count { result ≡ queued_at grant self.now }
+        ensures range { result ≤ 32 }
+    {
+        match &self.occupant {
+            Record::Receive(r) => r.queued(grant),
+            _ => 0,
+        }
     }
 
     /// Adds, to the counts of their send grants, the credits that its record holds, and its messages that owe one.

@@ -157,6 +157,24 @@ impl ReceiveEp {
         token_of(&self.fetched, i)
     }
 
+    /// How many messages that were sent through this grant, and aren't replies, are unread, or fetched and not being
+    /// replied to.
+    #[tactic(auto, using(crate::proofs::Queued::counted))]
+    pub fn queued(&self, grant: GrantId) -> u32
+        requires { IsSome self.now }
+        ensures count { Some result ≡ option_map (queued_in grant) self.now }
+        ensures range { result ≤ 32 }
+    {
+        let grant = grant.number() as u32;
+        let unread = self.unread.iter().filter(|m| is_sent_by(m, grant)).count();
+        let fetched = self
+            .fetched
+            .iter()
+            .filter(|f| is_sent_by(f.message(), grant) && !f.marked())
+            .count();
+        (unread + fetched) as u32
+    }
+
     /// Adds, to the counts of their send grants, the messages that aren't replies and are unread, or fetched and not
     /// being replied to.
     pub fn count_queued(&self, counts: &mut [u32])
@@ -177,6 +195,13 @@ impl ReceiveEp {
             Some(place) => self.fetched[place].marked(),
         }
     }
+}
+
+/// Whether a message was sent through this grant and isn't a reply.
+fn is_sent_by(message: &Message, grant: u32) -> bool
+    ensures { result ≡ is_sent_by grant message.now }
+{
+    message.header.flags == 0 && message.header.send == grant
 }
 
 /// Adds a message to the count of its send grant, unless it is a reply.
