@@ -17,14 +17,11 @@ use Rattle.m3_machine.proofs.Empty.{empty_refines}
 use Rattle.m3_machine.proofs.Serving.{serves_refine}
 use Rattle.m3_machine.proofs.Landed.{take_here_refines}
 use Rattle.m3_machine.proofs.Saves.{save_refines, bounce_refines}
+use Rattle.m3_machine.specs.Low.{LowComes}
 use Rattle.m3_machine.proofs.Restored.{restore_refines}
 use Rattle.m3_machine.proofs.Takes.{take_data_refines, take_yield_refines}
 use Rattle.m3_machine.proofs.Rests.{take_saved_refines}
 use Rattle.m3_machine.proofs.Dones.{take_closed_refines}
-
--- the contexts that come back have low numbers
-abbrev pub LowComes : Machine → Type 0
-LowComes m = (t from : ℕ) (c : Context) (xs : List Heard) (qs : List Parcel) → link_at from t m ≡ Restore c xs ∷ qs → has_low_numbers c ≡ true
 
 module _ (h : Site) (m : Machine) (sound : IsSound h m) (hyp : Hypotheses m) (numbers : LowComes m) (from : ℕ) (hf : from < 16) where
   not_home : (a t : ℕ) → is_home h a ≡ true → t ≡ tile_of h a → 2 ≤ t

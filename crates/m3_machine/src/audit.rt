@@ -3,7 +3,6 @@
 ghost use Rattle.std.specs.Prelude.{◌≡◌, ◌<◌, ◌≤◌, ◌++◌, length, IfOk, OnOk};
 ghost use Rattle.m3_machine.specs.Next.{tile_lines};
 
-use crate::links::Links;
 use m3_kernel::site::Site;
 use crate::tile::TilePart;
 use m3_base::command::Answer;
@@ -16,6 +15,7 @@ use m3_base::setup_line::SetupLine;
 use m3_core::context::Context;
 use m3_core::flying::Kind;
 use m3_core::parcel::Parcel;
+use m3_link::wires::Wires;
 use m3_endpoint::endpoint::Record;
 use std::alloc::{AllocError, Global};
 
@@ -75,14 +75,14 @@ fn flying(
     alloc: Global,
     site: &Site,
     tiles: &[TilePart],
-    links: &Links,
+    wires: &Wires,
 ) -> Result<Vec<u32>, AllocError>
     requires { length tiles.now ≡ 16 }
     ensures { IfOk result (λ v. length v.items ≡ 4097) }
 {
     let mut counts = Vec::new(alloc);
     counts.resize(4097, 0u32)?;
-    for link in links.all() {
+    for link in wires.all() {
         for parcel in link.iter() {
             if let Parcel::Data(packet) = parcel {
                 let grant = carried(site, tiles, packet) as usize;
@@ -159,12 +159,12 @@ pub fn credit_lines(
     site: &Site,
     setup: &Setup,
     tiles: &[TilePart],
-    links: &Links,
+    wires: &Wires,
     lines: &mut Vec<AuditLine>,
 ) -> Result<(), AllocError>
     requires { length tiles.now ≡ 16 }
 {
-    let counts = flying(alloc, site, tiles, links)?;
+    let counts = flying(alloc, site, tiles, wires)?;
     let mut number = 0u16;
     for line in setup.lines() {
         if let SetupLine::Grant(line) = line {

@@ -3,9 +3,10 @@
 
 mod aims;
 mod audit;
-pub mod links;
 pub mod machine;
+pub mod memory;
 mod next;
 mod opening;
+mod returning;
 mod shown;
 pub mod tile;

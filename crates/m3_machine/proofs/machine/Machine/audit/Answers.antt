@@ -1,6 +1,5 @@
 use Rattle.std.proofs.Common.{◌≡◌, ℕ, List, [], ◌∷◌, ◌++◌, min, is_none, ◌∙◌, ap}
 use Rattle.m3_base.specs.declared.journal.AuditLine.{AuditLine}
-use Rattle.m3_machine.specs.Links.{lists_in}
 use Rattle.m3_kernel.specs.Parts.{Tile}
 use Rattle.m3_machine.specs.Next.{tile_lines, next_take}
 use Rattle.m3_machine.specs.Closing.{flights}
@@ -19,7 +18,7 @@ returns c =
     ∙ ap (λ (v : Whole). tile_lines v.setup.tiles v.machine.tiles) c.self.view_is in
     let flown : c.flights.result ≡ min 4294967295 (flights w.machine) =
     c.flights.ensures
-    ∙ ap (min 4294967295) (flights_are (lists_in inside.links.links.items))
+    ∙ ap (min 4294967295) (flights_are inside.wires.lists)
     ∙ ap (λ (v : Whole). min 4294967295 (flights v.machine)) c.self.view_is in
     let quiet : c.is_none.result ≡ is_none (next_take w.machine) = is_none_from c.is_none.result c.next.result c.is_none.ensures ∙ ap is_none c.next.ensures in
     ends_with
