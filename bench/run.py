@@ -1,155 +1,26 @@
 #!/usr/bin/env python3
-"""Times the built program on a script of half a MiB and on one of a whole MiB.
+"""Times the built program on scripts of half a MiB and of a whole MiB, the longest input that there is.
 
     python3 bench/run.py [PROGRAM]
 
 PROGRAM is crates/m3x/out/m3x where it is left out (.ci/run builds it). Each script is run once and its whole output
-compared with the journal that this file works out for itself, and then five times against the clock, with the output
+compared with the journal that its maker works out for itself, and then five times against the clock, with the output
 thrown away. Printed are the best times, what they come to in bytes and events a second, and their ratio: the second
 script is twice as long, so a ratio near 2 is linear time.
-
-Commands that give credits back are no part of these scripts, so messages are a share of the events alone: each credit
-of each send endpoint is spent once, and spread evenly between events that are idle or refused.
 """
 import os
 import subprocess
 import sys
 import time
 
+import answers
+import messages
+import switches
+
 TOP = os.path.dirname(os.path.dirname(os.path.abspath(__file__)))
 KIB = 1024
-TILES = 16
-ACTIVITIES = TILES - 2
-# Endpoints 0 to 6 of each activity receive, 7 to 13 send, 14 sends with a credit that is spent at once, 15 is free.
-RECEIVING = 7
-SPENT, FREE = 14, 15
-SLOTS = CREDITS = 32
-SIZE = 64
 RUNS = 5
-
-
-def home(act):
-    return act + 2
-
-
-def receiver(act, lane):
-    """The activity that this activity sends to through its endpoint RECEIVING + lane; no two senders share an endpoint."""
-    return (act + lane + 1) % ACTIVITIES
-
-
-class Journal:
-    """A script, and the journal that it has to give."""
-
-    def __init__(self):
-        self.setup = [f"machine tiles {TILES} memory 4096"]
-        self.grants = []
-        self.events, self.entries = [], []
-        self.bytes = 0
-        self.flights = [0] * ACTIVITIES
-        self.tokens = {}
-        self.sent = {}
-
-    def line(self, text):
-        self.setup.append(text)
-
-    def grant(self, text):
-        self.line(text)
-        self.grants.append(text)
-        return len(self.grants)
-
-    def event(self, text, outcome):
-        self.events.append(text)
-        self.entries.append(f"{text}: {outcome}")
-        self.bytes += len(text) + 1
-
-    def message(self, act, ep, to, to_ep, label, payload):
-        """One send, its landing, its answer and its fetch."""
-        self.flights[act] += 1
-        flight = f"{act}.{self.flights[act]}"
-        token = self.tokens.get((to, to_ep), 0)
-        self.tokens[to, to_ep] = token + 1
-        self.sent[act, ep] = self.sent.get((act, ep), 0) + 1
-        self.event(f"do {act} send {ep} {payload}", f"flying {flight}")
-        self.event(f"take {home(to)} {home(act)}", f"landed {flight}")
-        self.event(f"take {home(act)} {home(to)}", f"answered {flight} sent")
-        self.event(f"do {to} fetch {to_ep}", f"message {token} from {act} label {label} {payload}")
-
-    def script(self):
-        return "\n".join([*self.setup, "begin", *self.events, ""]).encode()
-
-    def text(self, audit):
-        return "\n".join(["m3x journal 1", *self.setup, "begin", *self.entries, "end", *audit, ""]).encode()
-
-
-def label_of(act, lane):
-    return 1000 * act + lane
-
-
-def setup():
-    """The journal before its first event, and (activity, endpoint, credits) for each send grant by its number."""
-    made, receives, sends = Journal(), {}, {}
-    for act in range(ACTIVITIES):
-        made.line(f"act {act} tile {home(act)}")
-    for act in range(ACTIVITIES):
-        for ep in range(RECEIVING):
-            receives[act, ep] = made.grant(f"recv {act} {ep} slots {SLOTS} size {SIZE}")
-    for act in range(ACTIVITIES):
-        for lane in range(RECEIVING):
-            of = receives[receiver(act, lane), lane]
-            text = f"send {act} {RECEIVING + lane} of {of} label {label_of(act, lane)} credits {CREDITS}"
-            sends[made.grant(text)] = (act, RECEIVING + lane, CREDITS)
-    of = receives[1, 0]
-    sends[made.grant(f"send 0 {SPENT} of {of} label 1 credits 1")] = (0, SPENT, 1)
-    return made, sends
-
-
-def filler(made, n):
-    """The n-th of the events that change nothing."""
-    act = n % ACTIVITIES
-    kind = n % 5
-    if kind == 0:
-        made.event(f"do {act} fetch {n % RECEIVING}", "none")
-    elif kind == 1:
-        made.event(f"do 0 send {SPENT} 00", "refused 2 no-credits")
-    elif kind == 2:
-        made.event(f"do {act} send {FREE} 00", "refused 1 no-endpoint")
-    else:
-        made.event(f"take {home(act)} {home((act + n) % ACTIVITIES)}", "idle empty-link")
-
-
-def audit_of(made, sends):
-    lines = []
-    for grant in sorted(sends):
-        act, ep, limit = sends[grant]
-        sent = made.sent.get((act, ep), 0)
-        lines.append(f"audit credit {grant} held {limit - sent} flying 0 queued {sent} limit {limit}")
-    for tile in range(2, TILES):
-        lines.append(f"audit tile {tile} act {tile - 2}")
-    return [*lines, "audit flights 0", "audit quiet yes"]
-
-
-def make(size):
-    """A script of at most this many bytes, its journal's text, and the number of its events."""
-    made, sends = setup()
-    head = len("\n".join([*made.setup, "begin", ""]))
-    # One slot of the receiver at (1, 0) is for the message that spends the credit of endpoint SPENT.
-    made.message(0, SPENT, 1, 0, 1, "00")
-    rounds = [(act, lane, n) for n in range(CREDITS - 1) for lane in range(RECEIVING) for act in range(ACTIVITIES)]
-    # a script of half the size has half the messages
-    rounds = rounds[: len(rounds) * size // (KIB * KIB)]
-    filled = 0
-    for done, (act, lane, n) in enumerate(rounds):
-        payload = bytes((act + 16 * lane + n + i) % 256 for i in range(16)).hex()
-        made.message(act, RECEIVING + lane, receiver(act, lane), lane, label_of(act, lane), payload)
-        while head + made.bytes < size * (done + 1) // len(rounds) - 100:
-            filler(made, filled)
-            filled += 1
-    while head + made.bytes < size - 40:
-        filler(made, filled)
-        filled += 1
-    script = made.script()
-    assert size - 100 <= len(script) <= size, len(script)
-    return script, made.text(audit_of(made, sends)), len(made.events)
+MAKERS = (("messages", messages.make), ("answers", answers.make), ("switches", switches.make))
 
 
 def run(program, script, stdout):
@@ -177,24 +48,34 @@ def best(program, script):
     return min(times)
 
 
+def measure(program, name, make):
+    """Prints how long the scripts of one maker take. What is wrong with a run, or None."""
+    times = []
+    for size in (512 * KIB, 1024 * KIB):
+        script, wanted, events = make(size)
+        assert len(script) <= size, len(script)
+        wrong = judge(run(program, script, subprocess.PIPE), wanted)
+        if wrong:
+            return f"on the script of {len(script)} bytes of {name}: {wrong}"
+        least = best(program, script)
+        times.append(least)
+        rate = f"{len(script) / least / 1e6:.1f} MB"
+        print(f"{name:>10}  {len(script):>10}  {events:>7}  {len(wanted):>10}  {least * 1000:>7.1f} ms  {rate:>10}  {events / least:>10.0f}")
+    print(f"{name:>10}  ratio of the times: {times[1] / times[0]:.2f}")
+    return None
+
+
 def main(words):
     program = os.path.abspath(words[0]) if words else f"{TOP}/crates/m3x/out/m3x"
     if not os.access(program, os.X_OK):
         print(f"{program} isn't built: .ci/run builds it", file=sys.stderr)
         return 2
-    print(f"{'input':>10}  {'events':>7}  {'output':>10}  {'best of ' + str(RUNS):>10}  {'input/s':>10}  {'events/s':>10}")
-    times = []
-    for size in (512 * KIB, 1024 * KIB):
-        script, wanted, events = make(size)
-        wrong = judge(run(program, script, subprocess.PIPE), wanted)
+    print(f"{'script':>10}  {'input':>10}  {'events':>7}  {'output':>10}  {'best of ' + str(RUNS):>10}  {'input/s':>10}  {'events/s':>10}")
+    for name, make in MAKERS:
+        wrong = measure(program, name, make)
         if wrong:
-            print(f"on the script of {len(script)} bytes: {wrong}", file=sys.stderr)
+            print(wrong, file=sys.stderr)
             return 1
-        least = best(program, script)
-        times.append(least)
-        rate = f"{len(script) / least / 1e6:.1f} MB"
-        print(f"{len(script):>10}  {events:>7}  {len(wanted):>10}  {least * 1000:>7.1f} ms  {rate:>10}  {events / least:>10.0f}")
-    print(f"ratio of the times: {times[1] / times[0]:.2f}")
     return 0
 
 

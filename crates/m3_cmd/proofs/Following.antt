@@ -1,11 +1,12 @@
 -- A machine's journal follows the events that it makes.
 use Rattle.std.proofs.Common.{◌≡◌, ℕ, ◌<◌, ◌≤◌, Bool, true, false, List, [], get_or, ◌∷◌, ◌++◌, length, map, append_assoc, append-nil, Some, None, refl, sym, ap, ◌∙◌, subst, arith}
-use Rattle.std.specs.Prelude.{not, ◌&&◌, nat_lt}
+use Rattle.std.specs.Prelude.{not, ◌&&◌, ◌||◌, nat_lt}
 use Rattle.std.proofs.lemmas.Bool.Decides.{nat_tests}
 use Rattle.std.proofs.lemmas.List.{map-append}
 use Rattle.std.proofs.lemmas.List.Elements.{All-tail}
 use Rattle.m3_base.specs.declared.event.Event.{Event}
 use Rattle.m3_base.specs.declared.event.Entry.{Entry}
+use Rattle.m3_base.specs.declared.order.Order.{Order}
 use Rattle.m3_base.specs.State.{State}
 use Rattle.m3_base.specs.Places.{Places, opening_places}
 use Rattle.m3_base.specs.Entries.{IsRun}
@@ -27,7 +28,7 @@ use Rattle.m3_cmd.specs.Statuses.{IsOfSetup, AreOfSetup, Follows, IsTextAt, IsTe
 pub none_made : (m : Whole) → IsKept (site m.setup) m.machine → Follows m [] m
 none_made m kept = record { same = refl; made = []; added = sym (append-nil m.entries); follows = refl; ran = none_ran (site m.setup) m.machine kept }
 
-pub one_made : (old mid new : Whole) (es : List Event) (e : Event) → Follows old es mid → Steps mid e new → IsServed mid.machine e → IsOfSetup old.setup e → Follows old (es ++ e ∷ []) new
+pub one_made : (old mid new : Whole) (es : List Event) (e : Event) → Follows old es mid → Steps mid e new → IsServed e → IsOfSetup old.setup e → Follows old (es ++ e ∷ []) new
 one_made old mid new es e f s served own =
     let step = subst (λ (x : SetupValue). mstep (site x) mid.machine e None ≡ Some (record { outcome = s.outcome; machine = new.machine })) f.same s.moved in
     record {
@@ -37,7 +38,7 @@ one_made old mid new es e f s served own =
       follows = map-append event_of f.made (entry e s.outcome ∷ []) ∙ ap (λ l. l ++ e ∷ []) f.follows;
       ran =
           more_ran (site old.setup) old.machine mid.machine new.machine f.made (entry e s.outcome) f.ran (
-          means (site old.setup) mid.machine e s.outcome new.machine step f.ran.kept own.0 own.1 served
+          means (site old.setup) mid.machine e s.outcome new.machine step f.ran.kept s.low own.0 own.1 served
           );
     }
 
@@ -52,6 +53,14 @@ first_of s e es are = are 0 e (omega arith)
 below : (to from n : ℕ) → n ≤ 16 → not (nat_lt to n && nat_lt from n) ≡ false → (to < 16) × (from < 16)
 below to from n few e = (grind (arith, nat_tests, e, few), grind (arith, nat_tests, e, few))
 
+switch_named : (t n : ℕ) (absent : Bool) → n ≤ 16 → (not (nat_lt t n) || absent) ≡ false → (t < 16) × (absent ≡ false)
+switch_named t n true few e = absurd (by_test (not (nat_lt t n)) e)
+  where
+    by_test : (b : Bool) → (b || true) ≡ false → ⊥
+    by_test true e = cc
+    by_test false e = cc
+switch_named t n false few e = (grind (arith, nat_tests, e, few), refl)
+
 few_tiles : (s : SetupValue) → IsValid s → s.tiles ≤ 16
 few_tiles s v = let e : is_machine s.tiles s.memory ≡ true = v.machine in grind (arith, nat_tests, e)
 
@@ -59,9 +68,12 @@ named_one : (s : SetupValue) → IsValid s → (e : Event) → misses e s ≡ fa
 named_one s v (Event.Do a c) e = (declared_home s v a (first_free (is_absent a s) (has_program a s) e), tt)
 named_one s v (Event.Turn a) e = (tt, tt)
 named_one s v (Event.Take to from) e = (tt, below to from s.tiles (few_tiles s v) e)
-named_one s v (Event.Tend a) e = (tt, tt)
+named_one s v (Event.Tend a) e = (declared_home s v a e, tt)
 named_one s v Event.Close e = (tt, tt)
-named_one s v (Event.Order o) e = (tt, tt)
+named_one s v (Event.Order (Order.Switch t a)) e =
+    let both = switch_named t s.tiles (is_absent a s) (few_tiles s v) e in (declared_home s v a both.1, both.0)
+named_one s v (Event.Order (Order.Grant line)) e = (tt, tt)
+named_one s v (Event.Order (Order.Revoke g)) e = (tt, tt)
 named_one s v (Event.File l) e = (tt, tt)
 
 pub named_of : (s : SetupValue) → IsValid s → (es : List Event) → AllNamed s es → AreOfSetup s es

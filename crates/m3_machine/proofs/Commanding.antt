@@ -148,7 +148,7 @@ module _ (s : SetupValue) (h : Site) (kernel : Kernel) (memory : List ℕ) (tile
         (subst (λ (x : Tile). Does d new (tile_do (site s) x a command)) part_is (subst (λ (x : Site). Does d new (tile_do x part a command)) is_site does)) sent
         (ap (λ k. set tiles k new) index) out;
     setup = refl;
-    comes = comes;
+    low = comes;
   }
 
   pub made_on : (old : Whole) (es : List Entry) (emit : Option Emit) (d : TileDid) (links' : List (List CodeParcel)) → record { setup = s; machine = machine_of kernel memory tiles links; entries = entries } ≡ old

@@ -3,6 +3,10 @@ use Rattle.std.proofs.Common.{◌≡◌, ℕ, zero, suc, Bool, true, false, cond
 use Rattle.m3_base.specs.Keyed as keyed
 use Rattle.m3_merge.specs.Parts.{Each}
 
+abbrev pub InSome : {X : Type 0} → (X → Type 0) → Option X → Type 0
+InSome P None = Unit {0}
+InSome P (Some x) = P x
+
 module _ {X : Type 0} (P : X → Type 0) where
   pub each_read : (xs : List X) (i : ℕ) (d : X) → Each P xs → P d → P (get_or xs i d)
   each_read [] i d e p = p
@@ -20,16 +24,13 @@ module _ {X : Type 0} (P : X → Type 0) where
 
   -- among elements by their keys
   module _ {K : Type 0} (key : X → K) (same : K → K → Bool) where
-    pub each_found : (k : K) (xs : List X) (x : X) → Each P xs → keyed.find key same k xs ≡ Some x → P x
-    each_found k [] x e f = absurd (cc)
-    each_found k (y ∷ xs) x e f = by_test (same k (key y)) (each_found k xs x e.1) f
+    pub each_found : (k : K) (xs : List X) → Each P xs → InSome P (keyed.find key same k xs)
+    each_found k [] e = tt
+    each_found k (x ∷ xs) e = by_test (same k (key x)) (each_found k xs e.1)
       where
-        is_it : (z : X) → Some z ≡ Some x → z ≡ x
-        is_it z w = cc
-
-        by_test : (b : Bool) → (keyed.find key same k xs ≡ Some x → P x) → cond b (Some y) (keyed.find key same k xs) ≡ Some x → P x
-        by_test true r w = subst P (is_it y w) e.0
-        by_test false r w = r w
+        by_test : (b : Bool) → InSome P (keyed.find key same k xs) → InSome P (cond b (Some x) (keyed.find key same k xs))
+        by_test true r = e.0
+        by_test false r = r
 
     pub each_replaced : (y : X) (xs : List X) → Each P xs → P y → Each P (keyed.replaced key same y xs)
     each_replaced y [] e p = tt

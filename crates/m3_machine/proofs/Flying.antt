@@ -12,7 +12,7 @@ use Rattle.m3_core.specs.declared.parcel.Parcel.{Parcel as CodeParcel}
 use Rattle.m3_kernel.specs.Parts.{Home, Site, Tile, Seating, Seat}
 use Rattle.m3_machine.specs.Machine.{Machine, with_seats, seated_all, seated_at_opening, opened_seating, context_or_new, tile_at, empty_tiles}
 use Rattle.m3_machine.specs.At.{at, each, held_by, by_name, all_packets, on_links, packets_in}
-use Rattle.m3_machine.specs.Whole.{machine_of, site}
+use Rattle.m3_machine.specs.Whole.{opened, machine_of, site}
 use Rattle.m3_machine.specs.Closing.{flights}
 
 length_if : (b : Bool) (n : ℕ) (xs ys : List Packet) → length xs ≡ n → length ys ≡ n → length (if b then xs else ys) ≡ n

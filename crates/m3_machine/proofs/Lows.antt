@@ -71,6 +71,14 @@ is_low_more n m l = record {
   links = each_map (LowLink n) (LowLink (n + 1)) (λ x k. each_map (LowParcel n) (LowParcel (n + 1)) (low_parcel_more n) x k) m.links l.links;
 }
 
+pub low_deed_more : (n : ℕ) (d : Deed Part) → LowDeed n d → LowDeed (n + 1) d
+low_deed_more n d l = (part_more d.part l.0, each_map (λ x. LowParcel n x.1) (λ x. LowParcel (n + 1) x.1) (λ x k. low_parcel_more n x.1 k) d.out l.1)
+  where
+    part_more : (x : Part) → LowPart n x → LowPart (n + 1) x
+    part_more (Is_kernel k) p = low_seats_more n k.seats p
+    part_more (Is_memory x) p = tt
+    part_more (Is_tile t) p = low_in_more n t.current p
+
 -- ---- what a step does with them
 
 low_part : (n t : ℕ) (m : Machine) (x : Part) → IsLow n m → LowPart n x → IsLow n (with_part t x m)

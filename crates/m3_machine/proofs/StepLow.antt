@@ -5,19 +5,21 @@ use Rattle.std.specs.List.{list_all}
 use Rattle.std.proofs.lemmas.Bool.Decides.{nat_tests}
 use Rattle.m3_base.specs.declared.command.Command.{Command}
 use Rattle.m3_base.specs.declared.event.Event.{Event}
-use Rattle.m3_base.specs.declared.event.Outcome.{Outcome}
+use Rattle.m3_base.specs.declared.order.Order.{Order}
 use Rattle.m3_base.specs.Context.{Context, Endpoint, Free}
 use Rattle.m3_kernel.specs.Naming.{most_next, next_token_at, has_low_token, has_low_numbers}
 use Rattle.m3_kernel.specs.Parts.{Site, Parcel, tile_of, Tile}
-use Rattle.m3_machine.specs.Machine.{Machine, Part, Is_kernel, Is_memory, Is_tile, Did, empty_tile, tile_at, link_at, part_at, part_step, tile_for_event, popped, took, front, mstep}
+use Rattle.m3_kernel.specs.Kernel.{seat_of, switch, kernel_take, kernel_tend}
+use Rattle.m3_machine.specs.Machine.{Machine, Part, Is_kernel, Is_memory, Is_tile, Did, empty_tile, tile_at, of_kernel, link_at, part_at, part_step, tile_for_event, popped, took, front, mstep}
 use Rattle.m3_machine.specs.Low.{HasLow, LowTile, LowParcel, LowLink, IsLow, LowComes}
-use Rattle.m3_machine.specs.Whole.{site, entry, Steps, IsServed, ServesLink}
+use Rattle.m3_machine.specs.Whole.{site, entry, Steps, IsServed}
 use Rattle.m3_base.specs.declared.event.Entry.{Entry}
 use Rattle.m3_base.specs.Setup.{SetupValue}
 use Rattle.m3_machine.proofs.Commanding.{one_more}
 use Rattle.m3_machine.proofs.Eaches.{each_read}
-use Rattle.m3_machine.proofs.Lows.{LowPart, LowMade, low_seats_more, low_in_more, low_at_link, low_done}
+use Rattle.m3_machine.proofs.Lows.{LowPart, LowMade, low_seats_more, low_in_more, low_deed_more, low_at_link, low_done}
 use Rattle.m3_machine.proofs.TileLows.{do_low, take_low, memory_low}
+use Rattle.m3_machine.proofs.KernelLows.{kernel_take_low, kernel_tend_low, kernel_switch_low}
 
 module _ (h : Site) (n : ℕ) where
   nothing_low : (x : Part) (to from : ℕ) → LowPart n x → LowMade (n + 1) (part_step h x (Event.Take to from) None None)
@@ -42,28 +44,30 @@ module _ (h : Site) (n : ℕ) where
         by_tests false true = tt
         by_tests false false = tile_low t
 
-    takes_low : (to from : ℕ) (q : Parcel) → 1 ≤ to → LowParcel n q → LowMade (n + 1) (part_step h (part_at to m) (Event.Take to from) None (Some q))
-    takes_low to from q some l = by_tests (to == 0) refl (to == 1)
+    takes_low : (to from : ℕ) (q : Parcel) → LowParcel n q → LowMade (n + 1) (part_step h (part_at to m) (Event.Take to from) None (Some q))
+    takes_low to from q l = by_tests (to == 0) (to == 1)
       where
-        by_tests : (a : Bool) → (to == 0) ≡ a → (b : Bool) → LowMade (n + 1) (part_step h (if a then Is_kernel m.kernel else (if b then Is_memory m.memory else Is_tile (tile_at to m))) (Event.Take to from) None (Some q))
-        by_tests true e b = absurd (let z : to ≡ 0 = grind (arith, nat_tests, e) in omega (arith, some))
-        by_tests false e true = memory_low h (n + 1) m.memory q
-        by_tests false e false = take_low h n (tile_at to m) (tile_low to) q l
+        by_tests : (a b : Bool) → LowMade (n + 1) (part_step h (if a then Is_kernel m.kernel else (if b then Is_memory m.memory else Is_tile (tile_at to m))) (Event.Take to from) None (Some q))
+        by_tests true b = low_deed_more n (of_kernel (kernel_take h m.kernel q)) (kernel_take_low h n m.kernel q low.seats l)
+        by_tests false true = memory_low h (n + 1) m.memory q
+        by_tests false false = take_low h n (tile_at to m) (tile_low to) q l
 
-    link_low : (to from : ℕ) (qs : List Parcel) → ServesLink to qs → LowLink n qs → LowMade (n + 1) (part_step h (part_at to m) (Event.Take to from) None (front qs))
-    link_low to from [] s l = nothing_low (part_at to m) to from (part_low to)
-    link_low to from (q ∷ qs) s l = takes_low to from q s l.0
+    link_low : (to from : ℕ) (qs : List Parcel) → LowLink n qs → LowMade (n + 1) (part_step h (part_at to m) (Event.Take to from) None (front qs))
+    link_low to from [] l = nothing_low (part_at to m) to from (part_low to)
+    link_low to from (q ∷ qs) l = takes_low to from q l.0
 
-    made_low : (e : Event) → IsServed m e → LowMade (n + 1) (part_step h (part_at (tile_for_event h e) m) e None (took e m))
+    made_low : (e : Event) → IsServed e → LowMade (n + 1) (part_step h (part_at (tile_for_event h e) m) e None (took e m))
     made_low (Event.Do a c) s = command_low (part_at (tile_of h a) m) a c (part_low (tile_of h a))
-    made_low (Event.Take to from) s = link_low to from (link_at from to m) s (low_at_link n from to m low)
+    made_low (Event.Take to from) s = link_low to from (link_at from to m) (low_at_link n from to m low)
+    made_low (Event.Tend a) s = low_deed_more n (of_kernel (kernel_tend h m.kernel a)) (kernel_tend_low h n m.kernel a low.seats)
+    made_low (Event.Order (Order.Switch t a)) s = low_deed_more n (of_kernel (switch h m.kernel t (seat_of a m.kernel))) (kernel_switch_low h n m.kernel t a low.seats)
+    made_low (Event.Order (Order.Grant line)) s = absurd s
+    made_low (Event.Order (Order.Revoke g)) s = absurd s
     made_low (Event.Turn a) s = absurd s
-    made_low (Event.Tend a) s = absurd s
     made_low Event.Close s = absurd s
-    made_low (Event.Order o) s = absurd s
     made_low (Event.File l) s = absurd s
 
-    pub step_low : (e : Event) (d : Did) → IsServed m e → mstep h m e None ≡ Some d → IsLow (n + 1) d.machine
+    pub step_low : (e : Event) (d : Did) → IsServed e → mstep h m e None ≡ Some d → IsLow (n + 1) d.machine
     step_low e d s is = low_done n (tile_for_event h e) e m (part_step h (part_at (tile_for_event h e) m) e None (took e m)) d low (made_low e s) is
 
 -- ---- what comes back
@@ -89,16 +93,8 @@ pub low_comes : (n : ℕ) (m : Machine) → n ≤ 2097152 → IsLow n m → LowC
 low_comes n m few low t from c xs qs e = context_low n c few (subst (LowLink n) e (low_at_link n from t m low)).0
 
 -- a step leaves a low machine
-pub kept_low : (s : SetupValue) (old new : Machine) (entries es : List Entry) (e : Event) → Steps (record { setup = s; machine = old; entries = entries }) e (record { setup = s; machine = new; entries = es }) → IsServed old e → IsLow (length entries) old → IsLow (length es) new
+pub kept_low : (s : SetupValue) (old new : Machine) (entries es : List Entry) (e : Event) → Steps (record { setup = s; machine = old; entries = entries }) e (record { setup = s; machine = new; entries = es }) → IsServed e → IsLow (length entries) old → IsLow (length es) new
 kept_low s old new entries es e steps served low =
     subst (λ (n : ℕ). IsLow n new) (sym (one_more entries es (entry e steps.outcome) steps.added)) (
     step_low (site s) (length entries) old low e (record { outcome = steps.outcome; machine = new }) served steps.moved
     )
-
--- a tile or the memory takes what is there
-pub serves_front : (m : Machine) (to from : ℕ) → 1 ≤ to → IsServed m (Event.Take to from)
-serves_front m to from some = by_link (link_at from to m)
-  where
-    by_link : (qs : List Parcel) → ServesLink to qs
-    by_link [] = tt
-    by_link (q ∷ qs) = some

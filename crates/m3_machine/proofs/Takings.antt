@@ -1,20 +1,24 @@
 -- The machine's step at a take, from that of the memory or of a tile.
-use Rattle.std.proofs.Common.{◌≡◌, ℕ, ◌+◌, ◌<◌, ◌≤◌, List, [], ◌∷◌, ◌++◌, length, map, drop, get_or, set, Option, Some, None, refl, sym, ap, ◌∙◌, subst, arith}
-use Rattle.std.proofs.lemmas.List.{get_or_default, map-set}
+use Rattle.std.proofs.Common.{◌≡◌, ℕ, ◌+◌, ◌<◌, ◌≤◌, Bool, true, false, List, [], ◌∷◌, ◌++◌, length, map, drop, get_or, set, Option, Some, None, refl, sym, ap, ◌∙◌, subst, arith}
+use Rattle.std.specs.Prelude.{if◌then◌else◌, ◌==◌}
+use Rattle.std.proofs.lemmas.List.{get_or_default, map-set, set-get_or}
 use Rattle.std.proofs.lemmas.Bool.Decides.{nat_tests}
 use Rattle.m3_base.specs.declared.event.Event.{Event}
 use Rattle.m3_base.specs.declared.event.Entry.{Entry}
+use Rattle.m3_base.specs.declared.event.Outcome.{Outcome}
+use Rattle.m3_base.specs.declared.event.Said.{Said}
+use Rattle.m3_base.specs.declared.event.IdleWhy.{IdleWhy}
 use Rattle.m3_base.specs.Setup.{SetupValue}
 use Rattle.m3_core.specs.declared.parcel.Emit.{Emit}
 use Rattle.m3_core.specs.declared.parcel.Parcel.{Parcel as CodeParcel}
 use Rattle.m3_link.specs.Links.{place, list_at, popped, first}
-use Rattle.m3_kernel.specs.Parts.{Site, Kernel, Parcel, Tile, Deed}
+use Rattle.m3_kernel.specs.Parts.{Site, Kernel, Parcel, Tile, Deed, is_idle}
 use Rattle.m3_kernel.specs.Parcels.{parcel_of, parcels_of, out_of}
 use Rattle.m3_machine.specs.declared.tile.TileDid.{TileDid}
 use Rattle.m3_machine.specs.Tile.{tile_take}
 use Rattle.m3_machine.specs.Memory.{memory_take}
 use Rattle.m3_machine.specs.Low.{LowComes}
-use Rattle.m3_machine.specs.Telling.{Does}
+use Rattle.m3_machine.specs.Telling.{plain, Does}
 use Rattle.m3_machine.specs.Whole.{Whole, site, machine_of, entry, out_links, Steps}
 use Rattle.m3_machine.specs.Machine as machine
 use Rattle.m3_machine.proofs.Commanding.{parcels_at, pushed_links}
@@ -30,6 +34,51 @@ first_is (x ∷ qs) q e = ap (λ y. y ∷ qs) (same x q e)
 
 parcels_popped : (links : List (List CodeParcel)) (k : ℕ) → parcels_of (popped links k) ≡ set (parcels_of links) k (map parcel_of (drop 1 (get_or links k [])))
 parcels_popped links k = map-set (map parcel_of) links k (drop 1 (get_or links k []))
+
+-- a take of nothing
+module _ (s : SetupValue) (kernel : Kernel) (memory : List ℕ) (tiles : List Tile) (links : List (List CodeParcel)) (entries : List Entry) (to from : ℕ) where
+  abbrev still : machine.Machine
+  still = machine_of kernel memory tiles links
+
+  abbrev IsIdle : machine.Part → Type 0
+  IsIdle part =
+      machine.done_by to (machine.with_link from to [] still) (machine.part_step (site s) part (Event.Take to from) None None)
+      ≡ machine.done_by to (machine.with_link from to [] still) (Some (is_idle IdleWhy.EmptyLink part))
+
+  idle_part : (part : machine.Part) → IsIdle part
+  idle_part (machine.Is_kernel k) = refl
+  idle_part (machine.Is_memory x) = refl
+  idle_part (machine.Is_tile t) = refl
+
+  with_same : (a b : Bool) → (to == 0) ≡ a → (to == 1) ≡ b → machine.with_part to (if a then machine.Is_kernel kernel else (if b then machine.Is_memory memory else machine.Is_tile (machine.tile_at to still))) still ≡ still
+  with_same true b e f = refl
+  with_same false true e f = refl
+  with_same false false e f = ap (λ ts. record still { tiles = ts }) (set-get_or tiles to (machine.empty_tile to))
+
+  pub nothing_took : (old : Whole) (es : List Entry) (o : Outcome) → LowComes still → machine.link_at from to still ≡ [] → record { setup = s; machine = still; entries = entries } ≡ old
+      → es ≡ entries ++ entry (Event.Take to from) o ∷ [] → o ≡ plain (Said.Idle IdleWhy.EmptyLink)
+      → Steps old (Event.Take to from) (record { setup = s; machine = still; entries = es })
+  nothing_took old es o comes none is added says =
+      subst (λ (w : Whole). Steps w (Event.Take to from) (record { setup = s; machine = still; entries = es })) is (
+      record {
+        outcome = o;
+        added = added;
+        moved =
+            ap (λ l. machine.done_by to (machine.with_link from to (machine.rest l) still) (machine.part_step (site s) (machine.part_at to still) (Event.Take to from) None (machine.front l))) none
+            ∙ idle_part (machine.part_at to still)
+            ∙ ap Some (λ i. record {
+              outcome = sym says i;
+              machine =
+                  (ap (λ (x : machine.Machine). machine.with_part to (machine.part_at to still) x) same_links
+                  ∙ with_same (to == 0) (to == 1) refl refl) i;
+            });
+        setup = refl;
+        low = comes;
+      }
+      )
+    where
+      same_links : machine.with_link from to [] still ≡ still
+      same_links = ap (λ l. machine.with_link from to l still) (sym none) ∙ ap (λ ls. record still { links = ls }) (set-get_or (parcels_of links) (place from to) [])
 
 module _ (s : SetupValue) (h : Site) (kernel : Kernel) (memory : List ℕ) (tiles : List Tile) (links : List (List CodeParcel)) (entries : List Entry) (to from : ℕ) (q : CodeParcel)
     (is_site : h ≡ site s) (front : first (list_at links (place from to)) ≡ Some q) where
@@ -87,7 +136,7 @@ module _ (s : SetupValue) (h : Site) (kernel : Kernel) (memory : List ℕ) (tile
                     })) i;
               });
           setup = refl;
-          comes = comes;
+          low = comes;
         }
         )
 
@@ -118,6 +167,6 @@ module _ (s : SetupValue) (h : Site) (kernel : Kernel) (memory : List ℕ) (tile
                     })) i;
               });
           setup = refl;
-          comes = comes;
+          low = comes;
         }
         )

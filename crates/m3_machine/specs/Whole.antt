@@ -1,6 +1,7 @@
 -- A machine with its setup and its journal, and what one step of it is.
 use Rattle.std.specs.Prelude.{◌≡◌, ℕ, ◌+◌, ◌*◌, ◌<◌, ◌≤◌, true, List, [], ◌∷◌, ◌++◌, length, slice_index_or, slice_set, Option, Some, None}
 use Rattle.m3_base.specs.declared.event.Event.{Event}
+use Rattle.m3_base.specs.declared.order.Order.{Order}
 use Rattle.m3_base.specs.declared.event.Outcome.{Outcome}
 use Rattle.m3_base.specs.declared.event.Entry.{Entry}
 use Rattle.m3_base.specs.Flight.{name_of}
@@ -55,18 +56,20 @@ pub record IsWhole (m : Inside) : Type 0 where
 abbrev pub entry : Event → Outcome → Entry
 entry e o = record { event = e; outcome = o }
 
--- the step added one entry, and moved the machine as the local step of the event's part says; what comes back to a tile
--- then has low numbers
+-- the step added one entry, and moved the machine as the local step of the event's part says
 pub record Steps (old : Whole) (e : Event) (new : Whole) : Type 0 where
   pub outcome : Outcome
   pub added : new.entries ≡ old.entries ++ entry e outcome ∷ []
   pub moved : mstep (site old.setup) old.machine e None ≡ Some (record { outcome = outcome; machine = new.machine })
   pub setup : new.setup ≡ old.setup
-  pub comes : LowComes old.machine
+  -- what comes back to a tile has numbers that it takes
+  pub low : LowComes old.machine
 
--- a command is of an activity of the setup
+-- the event names activities of the setup alone
 abbrev pub IsOfSetup : Site → Event → Type 0
 IsOfSetup h (Event.Do a c) = is_home h a ≡ true
+IsOfSetup h (Event.Tend a) = is_home h a ≡ true
+IsOfSetup h (Event.Order (Order.Switch t a)) = is_home h a ≡ true
 IsOfSetup h event = Unit {0}
 
 abbrev pub HasParcel : List Parcel → Type 0
@@ -79,15 +82,13 @@ IsUnserved m (Event.Do a c) = ⊥
 IsUnserved m (Event.Take to from) = (to ≡ 0) × HasParcel (link_at from to m)
 IsUnserved m event = Unit {0}
 
-abbrev pub ServesLink : ℕ → List Parcel → Type 0
-ServesLink to [] = Unit {0}
-ServesLink to (q ∷ qs) = 1 ≤ to
-
--- the machine of today makes commands, and takes of nothing and of what is for the memory or for a tile from 2 on
-abbrev pub IsServed : Machine → Event → Type 0
-IsServed m (Event.Do a c) = Unit {0}
-IsServed m (Event.Take to from) = ServesLink to (link_at from to m)
-IsServed m event = ⊥
+-- the events that a machine without programs makes whose grants stay as they are: commands, takes, tends and switches
+abbrev pub IsServed : Event → Type 0
+IsServed (Event.Do a c) = Unit {0}
+IsServed (Event.Take to from) = Unit {0}
+IsServed (Event.Tend a) = Unit {0}
+IsServed (Event.Order (Order.Switch t a)) = Unit {0}
+IsServed event = ⊥
 
 -- ---- what goes out
 

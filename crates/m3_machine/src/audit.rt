@@ -3,7 +3,6 @@
 ghost use Rattle.std.specs.Prelude.{◌≡◌, ◌<◌, ◌≤◌, ◌++◌, length, IfOk, OnOk};
 ghost use Rattle.m3_machine.specs.Next.{tile_lines};
 
-use m3_kernel::site::Site;
 use crate::tile::TilePart;
 use m3_base::command::Answer;
 use m3_base::ids::{ActId, FlightId, GrantId, TileId};
@@ -15,8 +14,9 @@ use m3_base::setup_line::SetupLine;
 use m3_core::context::Context;
 use m3_core::flying::Kind;
 use m3_core::parcel::Parcel;
-use m3_link::wires::Wires;
 use m3_endpoint::endpoint::Record;
+use m3_kernel::site::Site;
+use m3_link::wires::Wires;
 use std::alloc::{AllocError, Global};
 
 /// The context of an activity, where it runs.

@@ -16,14 +16,14 @@ use crate::audit::{credit_lines, tile_lines};
 use crate::memory::MemPart;
 use crate::next::next_take;
 use crate::opening::{contexts, seated};
-use m3_kernel::site::Site;
-use crate::tile::{TileDid, TilePart, is_idle};
+use crate::tile::{TileDid, TilePart, idle};
 use m3_base::command::Command;
 use m3_base::event::{Entry, Event, IdleWhy, Outcome};
 use m3_base::ids::{ActId, TileId};
 use m3_base::journal::{Audit, AuditLine, Journal};
 use m3_base::setup::Setup;
 use m3_core::parcel::{Emit, Parcel};
+use m3_kernel::site::Site;
 use m3_link::wires::Wires;
 use std::alloc::{AllocError, Global};
 use std::marker::Model;
@@ -102,12 +102,7 @@ fn back(site: &Site, wires: &Wires, from: TileId, to: TileId) -> TileId
 }
 
 /// Makes room for what the memory or a tile sends as it takes the front of this link.
-fn room_to_take(
-    site: &Site,
-    wires: &mut Wires,
-    from: TileId,
-    to: TileId,
-) -> Result<(), AllocError>
+fn room_to_take(site: &Site, wires: &mut Wires, from: TileId, to: TileId) -> Result<(), AllocError>
     ensures lists { wires.new.lists ≡ wires.old.lists }
     ensures room { OnOk result (RoomToTake site.now wires.new.spare to (first (list_at wires.old.lists (place from to)))) }
 {
@@ -167,7 +162,7 @@ impl Machine {
     pub fn step(&mut self, alloc: Global, event: Event) -> Result<(), StepRefusal>
         requires { IsOfSetup (site self.old.setup) event }
         ensures ok { OnOk result (Steps self.old event self.new) }
-        ensures served { OnOk result (IsServed self.old.machine event) }
+        ensures served { OnOk result (IsServed event) }
         ensures err { OnErr result (self.new ≡ self.old) }
         ensures spent { result ≡ Err StepRefusal.Spent ↔ length self.old.entries ≡ 2097152 }
         ensures unserved { result ≡ Err StepRefusal.Unserved → IsUnserved self.old.machine event }
@@ -210,7 +205,6 @@ impl Machine {
     fn take(&mut self, to: TileId, from: TileId) -> Result<(), StepRefusal>
         requires room { length self.old.entries < 2097152 }
         ensures ok { OnOk result (Steps self.old (Event.Take to from) self.new) }
-        ensures served { OnOk result (IsServed self.old.machine (Event.Take to from)) }
         ensures err { OnErr result (self.new ≡ self.old) }
         ensures memory { IfErr result (λ e. e ≢ StepRefusal.Spent) }
         ensures unserved { result ≡ Err StepRefusal.Unserved → IsUnserved self.old.machine (Event.Take to from) }
@@ -234,7 +228,7 @@ impl Machine {
         ensures memory { IfErr result (λ e. e ≡ StepRefusal.NoMemory) }
     {
         self.journal.entries.reserve(1)?;
-        let TileDid { outcome, .. } = is_idle(IdleWhy::EmptyLink);
+        let outcome = idle(IdleWhy::EmptyLink);
         add(&mut self.journal.entries, Event::Take { to, from }, outcome);
         Ok(())
     }

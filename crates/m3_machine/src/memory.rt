@@ -52,10 +52,16 @@ impl MemPart {
     {
         match packet {
             Packet::Read {
-                id, place, buffer, ..
+                id,
+                place,
+                buffer,
+                ..
             } => site.declares(id.issuer) && self.has(*place, buffer.len()),
             Packet::Write {
-                id, place, payload, ..
+                id,
+                place,
+                payload,
+                ..
             } => site.declares(id.issuer) && self.has(*place, payload.len()),
             _ => false,
         }

@@ -10,7 +10,6 @@ ghost use Rattle.m3_machine.specs.Low.{HasLow};
 ghost use Rattle.m3_machine.specs.Machine.{empty_tiles};
 ghost use Rattle.m3_machine.specs.Seated.{seated_tiles};
 
-use m3_kernel::site::Site;
 use crate::tile::TilePart;
 use m3_base::ids::{ActId, EpId, GrantId, TileId};
 use m3_base::order::GrantLine;
@@ -18,6 +17,7 @@ use m3_base::packet::Fresh;
 use m3_base::setup::Setup;
 use m3_base::setup_line::SetupLine;
 use m3_core::context::Context;
+use m3_kernel::site::Site;
 use std::alloc::{AllocError, Global};
 
 fn no_contexts(alloc: Global) -> Result<Vec<Option<Context>>, AllocError>

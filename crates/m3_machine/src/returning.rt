@@ -81,7 +81,7 @@ fn has_low_token(occupant: &Record) -> bool
 }
 
 /// Whether the records and messages of a context name activities of the setup alone.
-pub fn names_context(site: &Site, context: &Context) -> bool
+fn names_context(site: &Site, context: &Context) -> bool
     ensures { result ≡ is_named_context site.now context.now }
 {
     for ep in 0..16u8 {
@@ -105,8 +105,16 @@ fn has_low_tokens(context: &Context) -> bool
 }
 
 /// Whether the next number and the next tokens of a context are low.
-pub fn has_low_numbers(context: &Context) -> bool
+fn has_low_numbers(context: &Context) -> bool
     ensures { result ≡ has_low_numbers context.now }
 {
     context.next_number() <= MOST_NEXT && has_low_tokens(context)
+}
+
+/// Whether a context may come back: its records and messages name activities of the setup alone, and its next number and
+/// next tokens are at most 2,097,153. It costs in proportion to the context.
+pub fn may_return(site: &Site, context: &Context) -> bool
+    ensures { result ≡ (is_named_context site.now context.now && has_low_numbers context.now) }
+{
+    names_context(site, context) && has_low_numbers(context)
 }

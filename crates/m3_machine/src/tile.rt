@@ -1,6 +1,7 @@
 //! A tile's part: its current activity, whose commands it issues and whose packets it takes.
 
-ghost use Rattle.std.specs.Prelude.{◌≡◌, ◌∷◌, [], List, IfOk, OnOk, OnErr, IsSome, None, Some, is_some, option_copied};
+ghost use Rattle.std.specs.Prelude.{◌≡◌, ◌==◌, ◌∷◌, [], List, IfOk, OnOk, OnErr, IsSome, None, Some, is_some, option_copied};
+ghost use Rattle.std.specs.List.{list_any};
 ghost use Rattle.m3_core.specs.Conditions.{IsBufferFor};
 ghost use Rattle.m3_base.specs.Places.{target, is_here};
 ghost use Rattle.m3_kernel.specs.Parts.{Heard, closed_out};
@@ -11,9 +12,8 @@ ghost use Rattle.m3_machine.specs.Machine.{empty_tile};
 ghost use Rattle.m3_machine.specs.TileView.{CanIssue, aim_at, runs, seated_with};
 
 use crate::aims::aim;
-use crate::returning::{has_low_numbers, names_context};
+use crate::returning::may_return;
 use crate::shown::{Shown, fetched, front};
-use m3_kernel::site::Site;
 use m3_base::command::Command;
 use m3_base::event::{IdleWhy, Outcome, Said};
 use m3_base::ids::{ActId, FlightId, GrantId, TileId};
@@ -23,6 +23,7 @@ use m3_core::arrived::Arrived;
 use m3_core::context::Context;
 use m3_core::issued::Issued;
 use m3_core::parcel::{Emit, Parcel};
+use m3_kernel::site::Site;
 use std::alloc::{AllocError, Global};
 use std::marker::Model;
 
@@ -61,6 +62,17 @@ pub fn says(said: Said, emit: Option<Emit>) -> TileDid
         restore: None,
     };
     TileDid { outcome, emit }
+}
+
+/// The outcome of an event that changed nothing.
+pub fn idle(why: IdleWhy) -> Outcome
+    ensures { result ≡ plain (Said.Idle why) }
+{
+    Outcome {
+        made: None,
+        said: Said::Idle(why),
+        restore: None,
+    }
 }
 
 /// An event that changed nothing.
@@ -209,6 +221,12 @@ fn land(site: &Site, context: &mut Context, packet: Packet) -> TileDid
     came(site, id, credit, arrived)
 }
 
+fn is_among(acts: &[ActId], act: ActId) -> bool
+    ensures { result ≡ list_any (λ a. a == act) acts.now }
+{
+    acts.iter().any(|other| other.number() == act.number())
+}
+
 impl TilePart {
     /// A tile without activities.
     pub fn new(alloc: Global, tile: TileId) -> TilePart
@@ -303,7 +321,7 @@ impl TilePart {
     fn houses(&self, act: ActId) -> bool
         ensures { result ≡ is_some (stay_of act self.now) }
     {
-        self.acts.contains(&act)
+        is_among(self.acts.as_slice(), act)
     }
 
     /// The current activity leaves with its whole context, where it is this one.
@@ -332,8 +350,7 @@ impl TilePart {
         ensures { (heard : List Heard) → Does result self.new (take_restore site.now self.old context heard self.old.current) }
     {
         let act = context.act();
-        let may_come = names_context(site, &context) && has_low_numbers(&context);
-        if self.current.is_some() || !may_come || !self.houses(act) {
+        if self.current.is_some() || !may_return(site, &context) || !self.houses(act) {
             return is_idle(IdleWhy::EmptyLink);
         }
         self.current = Some(context);
