@@ -99,6 +99,7 @@ impl Context {
     pub fn endpoint(&self, ep: EpId) -> &Record
         ensures same { endpoint_of result.now ≡ endpoint self.now ep }
         ensures sound { IsSoundRecord result.now }
+        ensures count { length self.now.endpoints ≡ 16 }
     {
         self.slots[ep.number() as usize].occupant()
     }

@@ -110,6 +110,11 @@ abbrev pub token_at : Option ReceiveRecord → ℕ → Option ℕ
 token_at None i = None
 token_at (Some r) i = option_map token_in (slice_get r.fetched i)
 
+-- the fetched message with i before it
+abbrev pub message_in_order : Option ReceiveRecord → ℕ → Option Message
+message_in_order None i = None
+message_in_order (Some r) i = option_map message_in (slice_get r.fetched i)
+
 -- the messages sent through g that aren't replies, unread, or fetched and not being replied to
 abbrev pub queued_in : ℕ → ReceiveRecord → ℕ
 queued_in g r = how_many (is_sent_by g) r.unread + how_many (is_owed g) r.fetched

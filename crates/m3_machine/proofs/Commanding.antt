@@ -4,8 +4,6 @@ use Rattle.std.specs.Prelude.{if◌then◌else◌, ◌==◌}
 use Rattle.std.proofs.lemmas.List.{get_or-set_same, get_or-set_other, get_or_default, length-set, map-set, map-append}
 use Rattle.std.proofs.lemmas.Bool.{cases_eq}
 use Rattle.std.proofs.lemmas.Bool.Decides.{nat_tests}
-use Rattle.std.specs.declared.collections.VecDeque.{VecDeque}
-use Rattle.std.specs.declared.alloc.Global.{Global}
 use Rattle.m3_base.specs.declared.command.Command.{Command}
 use Rattle.m3_base.specs.declared.packet.Packet.{Packet}
 use Rattle.m3_base.specs.declared.event.Event.{Event}
@@ -19,20 +17,19 @@ use Rattle.m3_core.specs.declared.parcel.Emit.{Emit}
 use Rattle.m3_core.specs.declared.parcel.Parcel.{Parcel as CodeParcel}
 use Rattle.m3_kernel.specs.Parts.{Site, Parcel, Data, Tile, is_idle, tile_of, tile_for}
 use Rattle.m3_machine.specs.Tile.{tile_do, do_at, do_issued, new_out}
-use Rattle.m3_machine.specs.Links.{place, pushed, HasRoom}
+use Rattle.m3_link.specs.Links.{place, pushed, spare_at}
 use Rattle.m3_kernel.specs.Parcels.{parcel_of, parcels_of, out_of}
 use Rattle.m3_machine.specs.Aims.{aim_of}
+use Rattle.m3_machine.specs.Low.{LowComes}
 use Rattle.m3_machine.specs.TileView.{aim_at}
-use Rattle.m3_machine.specs.Low.{HasLow, LowIn, AreLow}
 use Rattle.m3_base.specs.declared.event.Entry.{Entry}
 use Rattle.m3_base.specs.Setup.{SetupValue, IsValid}
-use Rattle.m3_kernel.specs.Parts.{Home, home_of, tile_in}
+use Rattle.m3_kernel.specs.Parts.{Home, Kernel, home_of, tile_in}
 use Rattle.m3_kernel.specs.Homes.{home_tile}
 use Rattle.m3_machine.specs.Whole.{Whole, site, machine_of, entry, out_links, HasRoomFor, Steps}
 use Rattle.m3_machine.proofs.Valid.{home_high}
 use Rattle.m3_machine.specs.Machine as plain
 use Rattle.m3_machine.proofs.Aiming.{issue_goes, GoesTo, AllGo}
-use Rattle.m3_machine.proofs.Numbers.{AllLow, issue_low, low_more}
 
 -- ---- links
 
@@ -88,54 +85,9 @@ module _ (h : Site) (part : Tile) (a : ℕ) (command : Command) where
       by_act true e w = issued_goes x (issue x command) refl e w
       by_act false e w = absurd (no_head e w)
 
-  pub has_room : (links : List (VecDeque CodeParcel Global)) (from to : ℕ) (emit : Option Emit) → to ≡ aim_at h part.current command → out_of emit ≡ (tile_do h part a command).out → HasRoom links (place from to) → HasRoomFor links from emit
-  has_room links from to None aims is room = tt
-  has_room links from to (Some e) aims is room = subst (λ (k : ℕ). HasRoom links (place from k)) (aims ∙ sym (at_goes part.current e is)) room
-
-  -- ---- numbers
-
-  issued_current : (n : ℕ) (x : Context) (o : Option Issued) → part.current ≡ Some x → HasLow n x → AllLow (n + 1) o → LowIn (n + 1) (do_issued h part o).part.current
-  issued_current n x None is low all = subst (λ (c : Option Context). LowIn (n + 1) c) (sym is) (low_more n x low)
-  issued_current n x (Some i) is low all = all
-
-  more_low : (n : ℕ) (o : Option Context) → LowIn n o → LowIn (n + 1) o
-  more_low n None l = tt
-  more_low n (Some x) l = low_more n x l
-
-  do_current : (n : ℕ) (o : Option Context) → part.current ≡ o → LowIn n o → LowIn (n + 1) (do_at h part a command o).part.current
-  do_current n None is l = subst (λ (c : Option Context). LowIn (n + 1) c) (sym is) tt
-  do_current n (Some x) is l = by_act (x.act == a)
-    where
-      by_act : (b : Bool) → LowIn (n + 1) (if b then do_issued h part (issue x command) else is_idle IdleWhy.NotCurrent part).part.current
-      by_act true = issued_current n x (issue x command) is l (issue_low n x command l)
-      by_act false = subst (λ (c : Option Context). LowIn (n + 1) c) (sym is) (low_more n x l)
-
-  pub do_low : (n : ℕ) → LowIn n part.current → LowIn (n + 1) (tile_do h part a command).part.current
-  do_low n l = do_current n part.current refl l
-
--- a tile changes, and the journal has one entry more
-pub low_set : (n at : ℕ) (tiles : List Tile) (new : Tile) → AreLow n tiles → LowIn (n + 1) new.current → AreLow (n + 1) (set tiles at new)
-low_set n at tiles new low l t d within =
-    let short : t < length tiles = subst (λ (k : ℕ). t < k) (length-set tiles at new) within in
-    ⊎_elim
-    (λ (e : t ≡ at). subst (λ (x : Tile). LowIn (n + 1) x.current) (sym (ap (λ k. get_or (set tiles at new) k d) e ∙ get_or-set_same tiles at new d (subst (λ (k : ℕ). k < length tiles) e short))) l)
-    (λ (ne : t ≡ at → ⊥). subst (λ (x : Tile). LowIn (n + 1) x.current) (sym (get_or-set_other tiles at t new d ne)) (still (get_or tiles t d).current (low t d short)))
-    (cases_eq t at)
-  where
-    still : (o : Option Context) → LowIn n o → LowIn (n + 1) o
-    still None l = tt
-    still (Some x) l = low_more n x l
-
--- the tile at a place made a command, and the journal has one entry more
-pub low_did : (h : Site) (a : ℕ) (command : Command) (n m at : ℕ) (tiles : List Tile) (part new : Tile) (d : TileDid) → Does d new (tile_do h part a command) → m ≡ n + 1 → at < length tiles → part ≡ get_or tiles at part → AreLow n tiles → AreLow m (set tiles at new)
-low_did h a command n m at tiles part new d does more within read low =
-    subst (λ (k : ℕ). AreLow k (set tiles at new)) (sym more) (
-    low_set n at tiles new low (
-    subst (λ (x : Tile). LowIn (n + 1) x.current) (sym does.part) (
-    do_low h part a command n (subst (λ (x : Tile). LowIn n x.current) (sym read) (low at part within))
-    )
-    )
-    )
+  pub has_room : (spare : List ℕ) (from to : ℕ) (emit : Option Emit) → to ≡ aim_at h part.current command → out_of emit ≡ (tile_do h part a command).out → 0 < spare_at spare (place from to) → HasRoomFor spare from emit
+  has_room spare from to None aims is room = tt
+  has_room spare from to (Some e) aims is room = subst (λ (k : ℕ). 0 < spare_at spare (place from k)) (aims ∙ sym (at_goes part.current e is)) room
 
 pub one_more : {X : Type 0} (old new : List X) (x : X) → new ≡ old ++ x ∷ [] → length new ≡ length old + 1
 one_more old new x e = ap length e ∙ length-append old (x ∷ [])
@@ -177,34 +129,35 @@ home_of_tile (Some y) t e = some_number y.tile t e
     some_number x y w = cc
 
 -- the tile of the activity makes a command
-module _ (s : SetupValue) (h : Site) (tiles : List Tile) (links : List (List CodeParcel)) (entries : List Entry) (t at a : ℕ) (command : Command) (part new : Tile)
+module _ (s : SetupValue) (h : Site) (kernel : Kernel) (memory : List ℕ) (tiles : List Tile) (links : List (List CodeParcel)) (entries : List Entry) (t at a : ℕ) (command : Command) (part new : Tile)
     (is_site : h ≡ site s) (valid : IsValid s) (home : home_tile (home_of a h) ≡ Some t) (index : at ≡ t) (count : length tiles ≡ 16) (read : part ≡ get_or tiles at part) where
   there : (tile_of (site s) a ≡ t) × (2 ≤ t) × (t < 16)
   there = home_high s valid a t (subst (λ (x : Site). home_tile (home_of a x) ≡ Some t) is_site home)
 
-  part_is : part ≡ plain.tile_at t (machine_of s tiles links)
+  part_is : part ≡ plain.tile_at t (machine_of kernel memory tiles links)
   part_is = read ∙ get_or_default tiles at part (plain.empty_tile t) (omega (arith, count, index, there.2)) ∙ ap (λ k. get_or tiles k (plain.empty_tile t)) index
 
-  pub made : (emit : Option Emit) (d : TileDid) (links' : List (List CodeParcel)) → Does d new (tile_do h part a command) → emit ≡ d.emit
+  pub made : (emit : Option Emit) (d : TileDid) (links' : List (List CodeParcel)) → LowComes (machine_of kernel memory tiles links) → Does d new (tile_do h part a command) → emit ≡ d.emit
       → parcels_of links' ≡ out_links t (out_of emit) (parcels_of links)
-      → Steps (record { setup = s; machine = machine_of s tiles links; entries = entries }) (Event.Do a command) (record { setup = s; machine = machine_of s (set tiles at new) links'; entries = entries ++ entry (Event.Do a command) d.outcome ∷ [] })
-  made emit d links' does sent out = record {
+      → Steps (record { setup = s; machine = machine_of kernel memory tiles links; entries = entries }) (Event.Do a command) (record { setup = s; machine = machine_of kernel memory (set tiles at new) links'; entries = entries ++ entry (Event.Do a command) d.outcome ∷ [] })
+  made emit d links' comes does sent out = record {
     outcome = d.outcome;
     added = refl;
     moved =
-        does_step (site s) (machine_of s tiles links) t a command there.0 there.1 (omega (arith, count, there.2)) (set tiles at new) new emit d (parcels_of links')
+        does_step (site s) (machine_of kernel memory tiles links) t a command there.0 there.1 (omega (arith, count, there.2)) (set tiles at new) new emit d (parcels_of links')
         (subst (λ (x : Tile). Does d new (tile_do (site s) x a command)) part_is (subst (λ (x : Site). Does d new (tile_do x part a command)) is_site does)) sent
         (ap (λ k. set tiles k new) index) out;
     setup = refl;
+    low = comes;
   }
 
-  pub made_on : (old : Whole) (es : List Entry) (emit : Option Emit) (d : TileDid) (links' : List (List CodeParcel)) → record { setup = s; machine = machine_of s tiles links; entries = entries } ≡ old
-      → es ≡ entries ++ entry (Event.Do a command) d.outcome ∷ [] → Does d new (tile_do h part a command) → emit ≡ d.emit
+  pub made_on : (old : Whole) (es : List Entry) (emit : Option Emit) (d : TileDid) (links' : List (List CodeParcel)) → record { setup = s; machine = machine_of kernel memory tiles links; entries = entries } ≡ old
+      → es ≡ entries ++ entry (Event.Do a command) d.outcome ∷ [] → LowComes (machine_of kernel memory tiles links) → Does d new (tile_do h part a command) → emit ≡ d.emit
       → parcels_of links' ≡ out_links t (out_of emit) (parcels_of links)
-      → Steps old (Event.Do a command) (record { setup = s; machine = machine_of s (set tiles at new) links'; entries = es })
-  made_on old es emit d links' is added does sent out =
-      subst (λ (w : Whole). Steps w (Event.Do a command) (record { setup = s; machine = machine_of s (set tiles at new) links'; entries = es })) is (
-      subst (λ (xs : List Entry). Steps (record { setup = s; machine = machine_of s tiles links; entries = entries }) (Event.Do a command) (record { setup = s; machine = machine_of s (set tiles at new) links'; entries = xs })) (sym added) (
-      made emit d links' does sent out
+      → Steps old (Event.Do a command) (record { setup = s; machine = machine_of kernel memory (set tiles at new) links'; entries = es })
+  made_on old es emit d links' is added comes does sent out =
+      subst (λ (w : Whole). Steps w (Event.Do a command) (record { setup = s; machine = machine_of kernel memory (set tiles at new) links'; entries = es })) is (
+      subst (λ (xs : List Entry). Steps (record { setup = s; machine = machine_of kernel memory tiles links; entries = entries }) (Event.Do a command) (record { setup = s; machine = machine_of kernel memory (set tiles at new) links'; entries = xs })) (sym added) (
+      made emit d links' comes does sent out
       )
       )

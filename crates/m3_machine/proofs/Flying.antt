@@ -12,7 +12,7 @@ use Rattle.m3_core.specs.declared.parcel.Parcel.{Parcel as CodeParcel}
 use Rattle.m3_kernel.specs.Parts.{Home, Site, Tile, Seating, Seat}
 use Rattle.m3_machine.specs.Machine.{Machine, with_seats, seated_all, seated_at_opening, opened_seating, context_or_new, tile_at, empty_tiles}
 use Rattle.m3_machine.specs.At.{at, each, held_by, by_name, all_packets, on_links, packets_in}
-use Rattle.m3_machine.specs.Whole.{machine_of, site}
+use Rattle.m3_machine.specs.Whole.{opened, machine_of, site}
 use Rattle.m3_machine.specs.Closing.{flights}
 
 length_if : (b : Bool) (n : ℕ) (xs ys : List Packet) → length xs ≡ n → length ys ≡ n → length (if b then xs else ys) ≡ n
@@ -50,8 +50,8 @@ none_held h s = seats_hold s h.homes (
     )
 
 -- the flights line of the ideal state counts the packets on links
-pub flights_line_is : (s : SetupValue) (tiles : List Tile) (links : List (List CodeParcel)) → flights_lines (at (machine_of s tiles links)) ≡ AuditLine.Flights (flights (machine_of s tiles links)) ∷ []
-flights_line_is s tiles links =
-    let m : Machine = machine_of s tiles links in
+pub flights_line_is : (s : SetupValue) (memory : List ℕ) (tiles : List Tile) (links : List (List CodeParcel)) → flights_lines (at (machine_of (opened s).kernel memory tiles links)) ≡ AuditLine.Flights (flights (machine_of (opened s).kernel memory tiles links)) ∷ []
+flights_line_is s memory tiles links =
+    let m : Machine = machine_of (opened s).kernel memory tiles links in
     let held : each held_by m.kernel.seats ≡ [] = none_held (site s) (opening s.memory s.lines) in
     ap (λ n. AuditLine.Flights n ∷ []) (length_by_name (all_packets m) ∙ ap (λ ps. length (ps ++ on_links packets_in m.links)) held)

@@ -104,7 +104,7 @@ module _ (h : Site) (m : Machine) (e : Event) (o : Outcome) (next : Machine) (st
   refined = subst (Refined h m e None) step (served_refines h m kept low e own within served)
 
   plain : o.made ≡ None
-  plain = 
+  plain =
       plain_done (tile_for_event h e) (popped e m) (part_step h (part_at (tile_for_event h e) m) e None (took e m)) did
       (part_tame h (λ a. tile_below h kept.sound.setup a (home_of a h) refl) (part_at (tile_for_event h e) m) e None (took e m) (unmade e served) (orders e served within)) step
 

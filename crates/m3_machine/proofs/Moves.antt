@@ -287,12 +287,13 @@ module _ (h : Site) (m : Machine) (e : Event) (d : Deed Part) (tiles : length m.
         link_at s u (popped e m),
         link_left h e s u m links within hu,
         links_pushed t d.out s u (with_part t d.part (popped e m)) (ap length (links_stay t d.part (popped e m)) ∙ popped_links e m ∙ links) low out hu
-        ∙ ap (λ ls. get_or ls (16 * s + u) [] ++ puts s u (item h m e d)) (links_stay t d.part (popped e m)),
+            ∙ ap (λ ls. get_or ls (16 * s + u) [] ++ puts s u (item h m e d)) (links_stay t d.part (popped e m)),
       )
   link_moves s u false f = ([], nothing_taken, nothing_put)
     where
       nothing_taken : [] ≡ takes s u (item h m e d) ++ []
       nothing_taken = none_taken s u h m e d f low
+
       nothing_put : [] ≡ [] ++ puts s u (item h m e d)
       nothing_put = none_put s u h m e d f out
 

@@ -22,6 +22,7 @@ use Rattle.m3_machine.specs.Whole.{opened, site, machine_of}
 use Rattle.m3_machine.proofs.Lines.{home_in, its_context, Has, its_is}
 use Rattle.m3_machine.proofs.Valid.{valid_along, valid_seated}
 use Rattle.m3_machine.proofs.OpenedSound.{first_machine}
+use Rattle.m3_machine.proofs.OpenedLow.{opened_memory}
 
 -- ---- empty tiles
 
@@ -90,9 +91,10 @@ module _ (s : SetupValue) (valid : IsValid s) where
   tiles_opened table has = tiles_are (opening s.memory s.lines) (first_machine (opening s.memory s.lines)) table (site s).homes (all_wait table has) (valid_along s valid).homes
 
   -- with the tiles and the links that the code opens with, the machine is the one that the setup opens
-  pub machine_opened : (h : Site) → h ≡ site s → (table : List (Option Context)) → HasContexts table (opening s.memory s.lines).contexts → (tiles : List Tile) → tiles ≡ seated_tiles table empty_tiles h.homes
-      → (links : List (List CodeParcel)) → links ≡ replicate 256 [] → machine_of s tiles links ≡ opened s
-  machine_opened h its table has tiles seated links none =
+  pub machine_opened : (h : Site) → h ≡ site s → (table : List (Option Context)) → HasContexts table (opening s.memory s.lines).contexts → (memory : List ℕ) → memory ≡ replicate s.memory 0 → (tiles : List Tile) → tiles ≡ seated_tiles table empty_tiles h.homes
+      → (links : List (List CodeParcel)) → links ≡ replicate 256 [] → machine_of (opened s).kernel memory tiles links ≡ opened s
+  machine_opened h its table has memory zeroes tiles seated links none =
       let t : tiles ≡ (opened s).tiles = seated ∙ ap (λ (y : Site). seated_tiles table empty_tiles y.homes) its ∙ tiles_opened table has in
       let l : parcels_of links ≡ (opened s).links = ap parcels_of none ∙ no_parcel 256 ∙ sym ((valid_seated s valid).links) in
-      λ k. record (opened s) { tiles = t k; links = l k }
+      let z : memory ≡ (opened s).memory = zeroes ∙ sym (opened_memory s valid) in
+      λ k. record (opened s) { memory = z k; tiles = t k; links = l k }

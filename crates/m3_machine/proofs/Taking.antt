@@ -1,6 +1,7 @@
--- A tile without programs takes data as its local step says.
+-- A tile without programs takes data, a Save and a Restore as its local steps say.
 use Rattle.std.proofs.Common.{◌≡◌, ℕ, Bool, true, false, List, [], ◌∷◌, map, Option, Some, None, refl, sym, ap, ◌∙◌, subst, arith}
-use Rattle.std.specs.Prelude.{if◌then◌else◌, ◌==◌}
+use Rattle.std.specs.Prelude.{if◌then◌else◌, ◌==◌, ◌&&◌, ◌||◌, is_some}
+use Rattle.std.specs.List.{list_any}
 use Rattle.std.proofs.lemmas.Bool.Decides.{nat_tests}
 use Rattle.m3_base.specs.declared.packet.Packet.{Packet}
 use Rattle.m3_base.specs.declared.event.Said.{Said}
@@ -11,10 +12,13 @@ use Rattle.m3_base.specs.Context.{Context}
 use Rattle.m3_base.specs.Arrive.{Arrived}
 use Rattle.m3_base.specs.Places.{target, is_here}
 use Rattle.m3_machine.specs.declared.tile.TileDid.{TileDid}
-use Rattle.m3_kernel.specs.Parts.{Site, Heard, First, Stay, Tile, Deed, Data, says, heard_of}
-use Rattle.m3_machine.specs.Tile.{stay_act, stay_of, with_stay, hears_all, hearing, heard_by, act_in, take_arrived, arrive_named, take_here, take_data}
+use Rattle.m3_kernel.specs.Parts.{Site, Heard, First, Stay, Tile, Deed, Data, Saved, says, dropped, heard_of}
+use Rattle.m3_kernel.specs.Naming.{is_named_context, has_low_numbers}
+use Rattle.m3_kernel.specs.Parcels.{out_of}
+use Rattle.m3_machine.specs.Tile.{stay_act, stay_of, with_stay, hears_all, hearing, heard_by, act_in, take_arrived, arrive_named, take_here, take_data, is_waiting, waits, has_ended, with_current, take_save, begun, restored, take_restore}
 use Rattle.m3_machine.specs.Machine.{new_stay}
-use Rattle.m3_machine.specs.Telling.{Lands, Does}
+use Rattle.m3_machine.specs.TileView.{runs}
+use Rattle.m3_machine.specs.Telling.{plain, Lands, Does}
 
 -- a program that has made no move hears nothing
 still_first : (xs : List Heard) → hears_all First xs ≡ First
@@ -81,4 +85,80 @@ takes_data h old t acts o c new p d is some here lands =
     let whole : old ≡ tile_with t acts (Some c) = is ∙ ap (tile_with t acts) some in
     subst (λ (x : Tile). Does d (tile_with t acts (Some new)) (take_data h x p)) (sym whole) (
     takes_there h t acts c new p d (subst (λ (x : Tile). is_here (target p) (act_in x.current) ≡ true) whole here) lands
+    )
+
+-- ---- a Save
+
+-- none of its activities waits, and none has ended
+waits_not : (a : ℕ) (acts : List ℕ) (x : Context) (o : Option Stay) → keyed.find stay_act same_act a (map new_stay acts) ≡ o → waits x o ≡ false
+waits_not a acts x None e = refl
+waits_not a acts x (Some y) e = ap (is_waiting x) (found_stay a acts y e)
+
+ended_not : (a : ℕ) (acts : List ℕ) (o : Option Stay) → keyed.find stay_act same_act a (map new_stay acts) ≡ o → has_ended o ≡ false
+ended_not a acts None e = refl
+ended_not a acts (Some y) e = ap (λ (z : Stay). z.ended) (found_stay a acts y e)
+
+saves_there : (t a : ℕ) (acts : List ℕ) (c : Context) (d : TileDid) → (c.act == a) ≡ true → d.outcome ≡ plain (Said.Saving a) → out_of d.emit ≡ (0, Saved c false false) ∷ [] → Does d (tile_with t acts None) (take_save (tile_with t acts (Some c)) a (Some c))
+saves_there t a acts c d here said sent =
+    subst (λ (b : Bool). Does d (tile_with t acts None) (if b then saving else dropped was)) (sym here) (
+    record {
+      outcome = said;
+      part = refl;
+      out =
+          let waits_is = waits_not a acts c (stay_of a was) refl in
+          let ended_is = ended_not a acts (stay_of a was) refl in
+          sent ∙ sym (λ i. (0, Saved c (waits_is i) (ended_is i)) ∷ []);
+    }
+    )
+  where
+    was : Tile
+    was = tile_with t acts (Some c)
+
+    saving : Deed Tile
+    saving = says (Said.Saving a) (with_current None (tile_with t acts (Some c))) ((0, Saved c (waits c (stay_of a (tile_with t acts (Some c)))) (has_ended (stay_of a (tile_with t acts (Some c))))) ∷ [])
+
+pub saves : (old : Tile) (t a : ℕ) (acts : List ℕ) (o : Option Context) (c : Context) (d : TileDid) → tile_with t acts o ≡ old → o ≡ Some c → runs a old.current ≡ true → d.outcome ≡ plain (Said.Saving a) → out_of d.emit ≡ (0, Saved c false false) ∷ []
+    → Does d (tile_with t acts None) (take_save old a old.current)
+saves old t a acts o c d is some here said sent =
+    let whole : tile_with t acts (Some c) ≡ old = ap (tile_with t acts) (sym some) ∙ is in
+    subst (λ (x : Tile). Does d (tile_with t acts None) (take_save x a x.current)) whole (
+    saves_there t a acts c d (subst (λ (x : Tile). runs a x.current ≡ true) (sym whole) here) said sent
+    )
+
+-- ---- a Restore
+
+either_way : (a b : ℕ) → (b == a) ≡ (a == b)
+either_way a b = grind (arith, nat_tests)
+
+pub houses_as : (a : ℕ) (acts : List ℕ) → list_any (λ b. b == a) acts ≡ is_some (keyed.find stay_act same_act a (map new_stay acts))
+houses_as a [] = refl
+houses_as a (b ∷ acts) = ap (λ t. t || list_any (λ y. y == a) acts) (either_way a b) ∙ by_test (a == b) (houses_as a acts)
+  where
+    by_test : (t : Bool) → list_any (λ y. y == a) acts ≡ is_some (keyed.find stay_act same_act a (map new_stay acts)) → (t || list_any (λ y. y == a) acts) ≡ is_some (if t then Some (new_stay b) else keyed.find stay_act same_act a (map new_stay acts))
+    by_test true r = refl
+    by_test false r = r
+
+begins : (xs : List Heard) (a : ℕ) → begun xs (new_stay a) ≡ new_stay a
+begins xs a = ap (λ s. record (new_stay a) { seen = s }) (still_first xs)
+
+restored_same : (t : ℕ) (acts : List ℕ) (c : Context) (xs : List Heard) (d : TileDid) (o : Option Stay) → keyed.find stay_act same_act c.act (map new_stay acts) ≡ o → is_some o ≡ true → d.outcome ≡ plain (Said.Current c.act) → out_of d.emit ≡ []
+    → Does d (tile_with t acts (Some c)) (restored (tile_with t acts None) c xs o)
+restored_same t acts c xs d None e some said sent = absurd (cc)
+restored_same t acts c xs d (Some y) e some said sent = record {
+  outcome = said;
+  part = sym (
+      ap (λ (z : Stay). with_stay z (tile_with t acts (Some c))) (ap (begun xs) (found_stay c.act acts y e) ∙ begins xs c.act)
+      ∙ ap (λ ys. record { tile = t; current = Some c; stays = ys }) (same_again c.act acts)
+      );
+  out = sent;
+}
+
+pub restores : (h : Site) (old : Tile) (t : ℕ) (acts : List ℕ) (o : Option Context) (c : Context) (d : TileDid) → tile_with t acts o ≡ old → is_some o ≡ false → (is_named_context h c && has_low_numbers c) ≡ true → is_some (stay_of c.act old) ≡ true
+    → d.outcome ≡ plain (Said.Current c.act) → out_of d.emit ≡ [] → (xs : List Heard) → Does d (tile_with t acts (Some c)) (take_restore h old c xs old.current)
+restores h old t acts (Some x) c d is none fit lives said sent xs = absurd (cc)
+restores h old t acts None c d is none fit lives said sent xs =
+    subst (λ (x : Tile). Does d (tile_with t acts (Some c)) (take_restore h x c xs x.current)) is (
+    subst (λ (b : Bool). Does d (tile_with t acts (Some c)) (if b then restored (tile_with t acts None) c xs (stay_of c.act (tile_with t acts None)) else dropped (tile_with t acts None))) (sym fit) (
+    restored_same t acts c xs d (stay_of c.act (tile_with t acts None)) refl (subst (λ (x : Tile). is_some (stay_of c.act x) ≡ true) (sym is) lives) said sent
+    )
     )

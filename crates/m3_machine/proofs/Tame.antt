@@ -225,10 +225,10 @@ module _ (h : Site) (low : (a : ℕ) → tile_of h a < 16) where
   front_tame : (k : Kernel) (x : Seat) (ps : List Packet) (y : Away) (sits : Away → Seating) (ready : Bool) → IsTame (kernel.tend_front h k x ps y sits ready)
   front_tame k x [] y sits ready = idle_tame IdleWhy.EmptyHold k
   front_tame k x (p ∷ ps) y sits ready = tend_tame k (
-    kernel.join_ready (ready && (has_program h x.act && not y.ended)) (tile_of h x.act) x.act (
-    kernel.with_seat (record x { seating = sits (kernel.after_packet p (kernel.arrived_context y.context (arrive_fit y.context p)) y); hold = ps }) k
-    )
-    ) x (arrive_fit y.context p)
+      kernel.join_ready (ready && (has_program h x.act && not y.ended)) (tile_of h x.act) x.act (
+      kernel.with_seat (record x { seating = sits (kernel.after_packet p (kernel.arrived_context y.context (arrive_fit y.context p)) y); hold = ps }) k
+      )
+      ) x (arrive_fit y.context p)
 
   seat_tame : (k : Kernel) (x : Seat) (w : Seating) → IsTame (kernel.tend_seat h k x w)
   seat_tame k x Is_placed = idle_tame IdleWhy.NotResting k

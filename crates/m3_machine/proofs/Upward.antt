@@ -3,7 +3,8 @@ use Rattle.std.proofs.Common.{◌≡◌, ℕ, zero, suc, ◌+◌, ◌-◌, ◌<�
 use Rattle.std.proofs.lemmas.Bool.{false≢true}
 use Rattle.m3_base.specs.declared.event.Event.{Event}
 use Rattle.m3_base.specs.Driver.{first_for, first_some}
-use Rattle.m3_machine.specs.Next.{is_nil, take_if, take_on, next_take_at, next_take_on}
+use Rattle.m3_link.specs.Links.{is_nil}
+use Rattle.m3_machine.specs.Next.{take_if, take_on, next_take_at, next_take_on}
 
 -- so many numbers from t on
 abbrev up : ℕ → ℕ → List ℕ

@@ -1,19 +1,14 @@
 -- What the driver takes next, and the closing lines on tiles, of a machine.
-use Rattle.std.specs.Prelude.{ℕ, zero, suc, ◌+◌, ◌-◌, Bool, true, false, List, [], ◌∷◌, map, slice_index_or, Option, Some, None}
+use Rattle.std.specs.Prelude.{ℕ, zero, suc, ◌+◌, ◌-◌, List, [], ◌∷◌, map, slice_index_or, Option, Some, None}
 use Rattle.m3_base.specs.declared.event.Event.{Event}
 use Rattle.m3_base.specs.declared.journal.AuditLine.{AuditLine}
 use Rattle.m3_base.specs.Driver.{tiles, first_for}
-use Rattle.m3_core.specs.declared.parcel.Parcel.{Parcel as CodeParcel}
 use Rattle.m3_kernel.specs.Parts.{Tile}
-use Rattle.m3_machine.specs.Links.{place, list_at}
+use Rattle.m3_link.specs.Links.{place, list_at}
 use Rattle.m3_machine.specs.Machine.{Machine}
 use Rattle.m3_machine.specs.At.{current_act}
 
 module _ {X : Type 0} where
-  abbrev pub is_nil : List X → Bool
-  is_nil [] = true
-  is_nil (x ∷ xs) = false
-
   abbrev pub take_if : ℕ → ℕ → List X → Option Event
   take_if to from [] = None
   take_if to from (x ∷ xs) = Some (Event.Take to from)
@@ -39,13 +34,3 @@ tile_lines_from t (suc n) current = AuditLine.Tile t (slice_index_or current t N
 
 abbrev pub tile_lines : ℕ → List Tile → List AuditLine
 tile_lines count parts = tile_lines_from 2 (count - 2) (map current_act parts)
-
--- the data on a link, and on all links
-abbrev pub data_in : List CodeParcel → ℕ
-data_in [] = 0
-data_in (CodeParcel.Data p ∷ ps) = 1 + data_in ps
-data_in (p ∷ ps) = data_in ps
-
-abbrev pub data_on : List (List CodeParcel) → ℕ
-data_on [] = 0
-data_on (ps ∷ links) = data_in ps + data_on links

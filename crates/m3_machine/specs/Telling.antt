@@ -14,7 +14,7 @@ use Rattle.m3_kernel.specs.Parcels.{out_of}
 use Rattle.m3_core.specs.declared.arrived.Arrived.{Arrived}
 use Rattle.m3_base.specs.declared.ids.FlightId.{FlightId}
 use Rattle.m3_machine.specs.declared.tile.TileDid.{TileDid}
-use Rattle.m3_kernel.specs.Parts.{Site, Parcel, Tile, Deed, data_out, answer_tile, closed_out}
+use Rattle.m3_kernel.specs.Parts.{Site, Parcel, Deed, data_out, answer_tile, closed_out}
 use Rattle.m3_machine.specs.Tile.{new_out}
 
 abbrev pub shown_of : Message → Shown
@@ -84,10 +84,10 @@ out_came h (Arrived.Credited taken) = []
 out_came h (Arrived.Installed g) = []
 out_came h (Arrived.Closing g) = []
 
--- the answer and the tile after it are those of the local step
-pub record Does (did : TileDid) (tile : Tile) (deed : Deed Tile) : Type 0 where
+-- the answer and the part after it are those of the local step
+pub record Does {S : Type 0} (did : TileDid) (now : S) (deed : Deed S) : Type 0 where
   pub outcome : did.outcome ≡ deed.outcome
-  pub part : tile ≡ deed.part
+  pub part : now ≡ deed.part
   pub out : out_of did.emit ≡ deed.out
 
 -- what came of a packet at a context, or that it was dropped

@@ -1,5 +1,5 @@
 -- What a tile is to a reader, and when it may issue a command.
-use Rattle.std.specs.Prelude.{ℕ, ◌<◌, [], ◌∷◌, ◌++◌, map, Option, Some, None}
+use Rattle.std.specs.Prelude.{ℕ, ◌<◌, Bool, false, ◌==◌, [], ◌∷◌, ◌++◌, map, Option, Some, None}
 use Rattle.m3_base.specs.declared.command.Command.{Command}
 use Rattle.m3_base.specs.Context.{Context}
 use Rattle.m3_core.specs.Conditions.{HasTokenFor}
@@ -20,6 +20,11 @@ CanIssue (Some x) c = (x.next < 4294967295) × HasTokenFor x c
 abbrev pub aim_at : Site → Option Context → Command → ℕ
 aim_at h None c = 0
 aim_at h (Some x) c = aim_of h x c
+
+-- this activity is the current one
+abbrev pub runs : ℕ → Option Context → Bool
+runs a None = false
+runs a (Some x) = x.act == a
 
 abbrev pub first_of : Option Context → Option Context → Option Context
 first_of None c = c

@@ -1,22 +1,19 @@
 -- A machine with its setup and its journal, and what one step of it is.
-use Rattle.std.specs.Prelude.{◌≡◌, ℕ, ◌+◌, ◌*◌, ◌≤◌, true, List, [], ◌∷◌, ◌++◌, length, slice_index_or, slice_set, Option, Some, None}
+use Rattle.std.specs.Prelude.{◌≡◌, ℕ, ◌+◌, ◌*◌, ◌<◌, ◌≤◌, true, List, [], ◌∷◌, ◌++◌, length, slice_index_or, slice_set, Option, Some, None}
 use Rattle.m3_base.specs.declared.event.Event.{Event}
 use Rattle.m3_base.specs.declared.order.Order.{Order}
 use Rattle.m3_base.specs.declared.event.Outcome.{Outcome}
 use Rattle.m3_base.specs.declared.event.Entry.{Entry}
-use Rattle.m3_base.specs.declared.ids.FlightId.{FlightId}
 use Rattle.m3_base.specs.Flight.{name_of}
 use Rattle.m3_base.specs.Setup.{SetupValue, IsValid}
 use Rattle.m3_machine.specs.declared.machine.Machine.TheInside.{Inside}
-use Rattle.m3_kernel.specs.Parts.{Site, Parcel, Data, Tile}
+use Rattle.m3_kernel.specs.Parts.{Site, tile_of, Parcel, Tile, Kernel}
 use Rattle.m3_kernel.specs.Naming.{is_home}
-use Rattle.std.specs.declared.collections.VecDeque.{VecDeque}
-use Rattle.std.specs.declared.alloc.Global.{Global}
 use Rattle.m3_core.specs.declared.parcel.Emit.{Emit}
 use Rattle.m3_core.specs.declared.parcel.Parcel.{Parcel as CodeParcel}
 use Rattle.m3_kernel.specs.Parcels.{parcels_of}
-use Rattle.m3_machine.specs.Low.{AreLow, LowComes}
-use Rattle.m3_machine.specs.Links.{place, lists_in, HasRoom}
+use Rattle.m3_link.specs.Links.{place, spare_at}
+use Rattle.m3_machine.specs.Low.{IsLow, LowComes}
 use Rattle.m3_machine.specs.Machine.{Machine, link_at, mstep, opened_machine}
 use Rattle.m3_kernel.specs.Sites.{site_of}
 
@@ -35,15 +32,15 @@ site s = site_of s.memory [] s.lines
 abbrev pub opened_whole : SetupValue → Whole
 opened_whole s = record { setup = s; machine = opened s; entries = [] }
 
--- the kernel and the memory are as at opening
-abbrev pub machine_of : SetupValue → List Tile → List (List CodeParcel) → Machine
-machine_of s tiles links = record (opened s) { tiles = tiles; links = parcels_of links }
+abbrev pub machine_of : Kernel → List ℕ → List Tile → List (List CodeParcel) → Machine
+machine_of kernel memory tiles lists = record { kernel = kernel; memory = memory; tiles = tiles; links = parcels_of lists }
 
+-- the kernel is as at opening
 abbrev pub whole_of : Inside → Whole
 whole_of m =
     record {
       setup = m.journal.setup;
-      machine = machine_of m.journal.setup m.tiles.items (lists_in m.links.links.items);
+      machine = machine_of (opened m.journal.setup).kernel m.memory m.tiles.items m.wires.lists;
       entries = m.journal.entries.items;
     }
 
@@ -52,7 +49,7 @@ pub record IsWhole (m : Inside) : Type 0 where
   pub valid : IsValid m.journal.setup
   pub tiles : length m.tiles.items ≡ 16
   pub entries : length m.journal.entries.items ≤ 2097152
-  pub low : AreLow (length m.journal.entries.items) m.tiles.items
+  pub low : IsLow (length m.journal.entries.items) (whole_of m).machine
 
 -- ---- one step
 
@@ -75,20 +72,14 @@ IsOfSetup h (Event.Tend a) = is_home h a ≡ true
 IsOfSetup h (Event.Order (Order.Switch t a)) = is_home h a ≡ true
 IsOfSetup h event = Unit {0}
 
--- data is at the front
-abbrev pub IsData : List Parcel → Type 0
-IsData [] = ⊥
-IsData (Data p ∷ ps) = Unit {0}
-IsData (q ∷ ps) = ⊥
-
 abbrev pub HasParcel : List Parcel → Type 0
 HasParcel [] = ⊥
-HasParcel (q ∷ ps) = Unit {0}
+HasParcel (q ∷ qs) = Unit {0}
 
--- the event is no command and no take, or takes a parcel that is for the kernel or the memory or is no data
+-- the event is no command and no take, or takes a parcel that is for the kernel
 abbrev pub IsUnserved : Machine → Event → Type 0
 IsUnserved m (Event.Do a c) = ⊥
-IsUnserved m (Event.Take to from) = HasParcel (link_at from to m) × (2 ≤ to → IsData (link_at from to m) → ⊥)
+IsUnserved m (Event.Take to from) = (to ≡ 0) × HasParcel (link_at from to m)
 IsUnserved m event = Unit {0}
 
 -- the events that a machine without programs makes whose grants stay as they are: commands, takes, tends and switches
@@ -99,15 +90,6 @@ IsServed (Event.Tend a) = Unit {0}
 IsServed (Event.Order (Order.Switch t a)) = Unit {0}
 IsServed event = ⊥
 
-abbrev pub IsNamedAt : FlightId → List Parcel → Type 0
-IsNamedAt id [] = ⊥
-IsNamedAt id (Data p ∷ ps) = name_of p ≡ id
-IsNamedAt id (q ∷ ps) = ⊥
-
--- a packet of this flight is at the front of that link
-abbrev pub HasFront : Machine → ℕ → ℕ → FlightId → Type 0
-HasFront m from to id = IsNamedAt id (link_at from to m)
-
 -- ---- what goes out
 
 -- the links of a machine after these parcels of one tile
@@ -115,6 +97,17 @@ abbrev pub out_links : ℕ → List (ℕ × Parcel) → List (List Parcel) → L
 out_links from [] links = links
 out_links from (x ∷ xs) links = out_links from xs (slice_set links (16 * from + x.0) (slice_index_or links (16 * from + x.0) [] ++ x.1 ∷ []))
 
-abbrev pub HasRoomFor : List (VecDeque CodeParcel Global) → ℕ → Option Emit → Type 0
-HasRoomFor links from None = Unit {0}
-HasRoomFor links from (Some e) = HasRoom links (place from e.to)
+abbrev pub HasRoomFor : List ℕ → ℕ → Option Emit → Type 0
+HasRoomFor spare from None = Unit {0}
+HasRoomFor spare from (Some e) = 0 < spare_at spare (place from e.to)
+
+-- ---- a take
+
+-- where the answer to a parcel goes
+abbrev pub back_of : Site → Option CodeParcel → ℕ
+back_of h (Some (CodeParcel.Data p)) = tile_of h (name_of p).issuer
+back_of h q = 0
+
+-- a tile that takes this parcel has room for what it sends
+abbrev pub RoomToTake : Site → List ℕ → ℕ → Option CodeParcel → Type 0
+RoomToTake h spare to q = (0 < spare_at spare (place to (back_of h q))) × (0 < spare_at spare (place to 0))

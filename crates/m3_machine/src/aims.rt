@@ -5,12 +5,12 @@ ghost use Rattle.m3_base.specs.Context.{endpoint};
 ghost use Rattle.m3_core.specs.Slots.{fetched_message_at};
 ghost use Rattle.m3_machine.specs.Aims.{aim_of, aim_of_send, aim_of_answer};
 
-use m3_kernel::site::Site;
 use m3_base::command::Command;
 use m3_base::ids::{EpId, TileId};
 use m3_base::packet::Fresh;
 use m3_core::context::Context;
 use m3_endpoint::endpoint::Record;
+use m3_kernel::site::Site;
 
 /// The home of the activity that a send through this endpoint is for.
 fn aim_of_send(site: &Site, context: &Context, ep: EpId) -> TileId

@@ -52,7 +52,7 @@ pub fn credit_lines(
     alloc: Global,
     setup: &Setup,
     tiles: &[TilePart],
-    links: &Links,
+    wires: &Wires,
     lines: &mut Vec<AuditLine>,
 ) -> Result<(), AllocError>
     requires { IsValid setup.now }

@@ -3,11 +3,12 @@
 
 mod aims;
 mod audit;
-pub mod links;
 pub mod machine;
+pub mod memory;
 mod next;
 mod opening;
 mod roster;
+mod returning;
 mod shown;
 mod tally;
 pub mod tile;

@@ -4,25 +4,27 @@ ghost use Rattle.std.specs.Prelude.{◌≡◌, ◌≢◌, ◌↔◌, ◌<◌, �
 ghost use Rattle.m3_base.specs.declared.event.Event.{Event};
 ghost use Rattle.m3_base.specs.Setup.{IsValid};
 ghost use Rattle.m3_machine.specs.declared.machine.StepRefusal.{StepRefusal};
-ghost use Rattle.m3_machine.specs.Links.{place, lists_in, pushed, HasRoom};
+ghost use Rattle.m3_link.specs.Links.{place, list_at, first, pushed, spare_at};
 ghost use Rattle.m3_kernel.specs.Naming.{is_home};
 ghost use Rattle.m3_machine.specs.Next.{next_take};
 ghost use Rattle.m3_machine.specs.Closing.{lines};
 ghost use Rattle.m3_kernel.specs.Parcels.{parcels_of, out_of};
-ghost use Rattle.m3_machine.specs.Whole.{site, entry, opened_whole, out_links, HasRoomFor, IsOfSetup, IsServed, IsUnserved, HasFront, Steps};
+ghost use Rattle.m3_machine.specs.Machine.{link_at};
+ghost use Rattle.m3_machine.specs.Whole.{site, entry, opened_whole, out_links, back_of, HasParcel, HasRoomFor, RoomToTake, IsOfSetup, IsServed, IsUnserved, Steps};
 
 use crate::audit::{credit_lines, tile_lines};
-use crate::links::{Front, Links};
+use crate::memory::MemPart;
 use crate::next::next_take;
 use crate::opening::{contexts, seated};
-use m3_kernel::site::Site;
-use crate::tile::{TileDid, TilePart, is_idle};
+use crate::tile::{TileDid, TilePart, idle};
 use m3_base::command::Command;
 use m3_base::event::{Entry, Event, IdleWhy, Outcome};
-use m3_base::ids::{ActId, FlightId, TileId};
+use m3_base::ids::{ActId, TileId};
 use m3_base::journal::{Audit, AuditLine, Journal};
 use m3_base::setup::Setup;
 use m3_core::parcel::{Emit, Parcel};
+use m3_kernel::site::Site;
+use m3_link::wires::Wires;
 use std::alloc::{AllocError, Global};
 use std::marker::Model;
 
@@ -30,8 +32,9 @@ use std::marker::Model;
 #[derive(Drop)]
 pub struct Machine {
     site: Site,
+    memory: MemPart,
     tiles: Vec<TilePart>,
-    links: Links,
+    wires: Wires,
     journal: Journal,
 }
 
@@ -57,8 +60,7 @@ pub enum StepRefusal {
     Spent,
     /// No memory was left for the entry or for what it moves.
     NoMemory,
-    /// The event is no command and no take, or takes a parcel that is for the kernel or for the memory, which take none
-    /// yet.
+    /// The event is no command and no take, or takes a parcel that is for the kernel, which takes none yet.
     Unserved,
 }
 
@@ -71,22 +73,42 @@ impl From<AllocError> for StepRefusal {
 }
 
 /// A parcel joins its link, which has room for it.
-fn push(links: &mut Links, from: TileId, emit: Emit)
-    requires { HasRoom links.old.links.items (place from emit.to) }
-    ensures { lists_in links.new.links.items ≡ pushed (lists_in links.old.links.items) (place from emit.to) emit.parcel }
+fn push(wires: &mut Wires, from: TileId, emit: Emit)
+    requires { 0 < spare_at wires.old.spare (place from emit.to) }
+    ensures { wires.new.lists ≡ pushed wires.old.lists (place from emit.to) emit.parcel }
 {
-    links.push(from, emit.to, emit.parcel);
+    wires.push(from, emit.to, emit.parcel);
 }
 
 /// What a part sends joins its link, which has room for it.
-fn put_out(links: &mut Links, from: TileId, emit: Option<Emit>)
-    requires { HasRoomFor links.old.links.items from emit }
-    ensures { parcels_of (lists_in links.new.links.items) ≡ out_links from (out_of emit) (parcels_of (lists_in links.old.links.items)) }
+fn put_out(wires: &mut Wires, from: TileId, emit: Option<Emit>)
+    requires { HasRoomFor wires.old.spare from emit }
+    ensures { parcels_of wires.new.lists ≡ out_links from (out_of emit) (parcels_of wires.old.lists) }
 {
     match emit {
         None => {}
-        Some(emit) => push(links, from, emit),
+        Some(emit) => push(wires, from, emit),
     }
+}
+
+/// The tile that the answer to the front of this link goes to.
+fn back(site: &Site, wires: &Wires, from: TileId, to: TileId) -> TileId
+    ensures { result ≡ back_of site.now (first (list_at wires.now.lists (place from to))) }
+{
+    match wires.get(from, to, 0) {
+        Some(Parcel::Data(packet)) => site.tile_of(packet.id().issuer),
+        _ => TileId::new(0),
+    }
+}
+
+/// Makes room for what the memory or a tile sends as it takes the front of this link.
+fn room_to_take(site: &Site, wires: &mut Wires, from: TileId, to: TileId) -> Result<(), AllocError>
+    ensures lists { wires.new.lists ≡ wires.old.lists }
+    ensures room { OnOk result (RoomToTake site.now wires.new.spare to (first (list_at wires.old.lists (place from to)))) }
+{
+    let back = back(site, wires, from, to);
+    wires.reserve(to, back)?;
+    wires.reserve(to, TileId::new(0))
 }
 
 /// An entry joins the journal, which has room for it.
@@ -112,15 +134,17 @@ impl Machine {
         let site = Site::new(alloc, setup.memory(), setup.lines())?;
         let mut table = contexts(alloc, &setup)?;
         let tiles = seated(alloc, &site, &mut table)?;
-        let links = Links::new(alloc)?;
+        let memory = MemPart::new(alloc, setup.memory())?;
+        let wires = Wires::new(alloc)?;
         let journal = Journal {
             setup,
             entries: Vec::new(alloc),
         };
         Ok(Machine {
             site,
+            memory,
             tiles,
-            links,
+            wires,
             journal,
         })
     }
@@ -170,10 +194,10 @@ impl Machine {
         };
         self.journal.entries.reserve(1)?;
         let to = self.tiles[at].aim(&self.site, &command);
-        self.links.reserve(tile, to)?;
+        self.wires.reserve(tile, to)?;
         let did = self.tiles[at].command(alloc, &self.site, act, command)?;
         let TileDid { outcome, emit } = did;
-        put_out(&mut self.links, tile, emit);
+        put_out(&mut self.wires, tile, emit);
         add(&mut self.journal.entries, event, outcome);
         Ok(())
     }
@@ -181,46 +205,76 @@ impl Machine {
     fn take(&mut self, to: TileId, from: TileId) -> Result<(), StepRefusal>
         requires room { length self.old.entries < 2097152 }
         ensures ok { OnOk result (Steps self.old (Event.Take to from) self.new) }
-        ensures served { OnOk result (IsServed (Event.Take to from)) }
         ensures err { OnErr result (self.new ≡ self.old) }
         ensures memory { IfErr result (λ e. e ≢ StepRefusal.Spent) }
         ensures unserved { result ≡ Err StepRefusal.Unserved → IsUnserved self.old.machine (Event.Take to from) }
     {
-        self.journal.entries.reserve(1)?;
-        match self.links.front(from, to) {
-            Front::Nothing => {
-                let TileDid { outcome, .. } = is_idle(IdleWhy::EmptyLink);
-                add(&mut self.journal.entries, Event::Take { to, from }, outcome);
-                Ok(())
-            }
-            Front::Data(id) if 2 <= to.number() => self.take_data(to, from, id),
-            _ => Err(StepRefusal::Unserved),
+        if self.wires.is_empty(from, to) {
+            return self.take_nothing(to, from);
+        }
+        match to.number() {
+            0 => Err(StepRefusal::Unserved),
+            1 => self.take_at_memory(from),
+            _ => self.take_at_tile(to, from),
         }
     }
 
-    /// A tile takes the packet at the front, which is of this flight.
-    fn take_data(&mut self, to: TileId, from: TileId, id: FlightId) -> Result<(), StepRefusal>
+    /// The link is empty.
+    fn take_nothing(&mut self, to: TileId, from: TileId) -> Result<(), StepRefusal>
+        requires room { length self.old.entries < 2097152 }
+        requires none { link_at from to self.old.machine ≡ [] }
+        ensures ok { OnOk result (Steps self.old (Event.Take to from) self.new) }
+        ensures err { OnErr result (self.new ≡ self.old) }
+        ensures memory { IfErr result (λ e. e ≡ StepRefusal.NoMemory) }
+    {
+        self.journal.entries.reserve(1)?;
+        let outcome = idle(IdleWhy::EmptyLink);
+        add(&mut self.journal.entries, Event::Take { to, from }, outcome);
+        Ok(())
+    }
+
+    /// The memory takes the front of its link.
+    fn take_at_memory(&mut self, from: TileId) -> Result<(), StepRefusal>
+        requires room { length self.old.entries < 2097152 }
+        requires some { HasParcel (link_at from 1 self.old.machine) }
+        ensures ok { OnOk result (Steps self.old (Event.Take 1 from) self.new) }
+        ensures err { OnErr result (self.new ≡ self.old) }
+        ensures memory { IfErr result (λ e. e ≡ StepRefusal.NoMemory) }
+    {
+        let to = TileId::new(1);
+        self.journal.entries.reserve(1)?;
+        room_to_take(&self.site, &mut self.wires, from, to)?;
+        match self.wires.take(from, to) {
+            None => unreachable!(),
+            Some(parcel) => {
+                let TileDid { outcome, emit } = self.memory.take(&self.site, parcel);
+                put_out(&mut self.wires, to, emit);
+                add(&mut self.journal.entries, Event::Take { to, from }, outcome);
+                Ok(())
+            }
+        }
+    }
+
+    /// A tile takes the front of its link.
+    fn take_at_tile(&mut self, to: TileId, from: TileId) -> Result<(), StepRefusal>
         requires room { length self.old.entries < 2097152 }
         requires high { 2 ≤ to }
-        requires front { HasFront self.old.machine from to id }
+        requires some { HasParcel (link_at from to self.old.machine) }
         ensures ok { OnOk result (Steps self.old (Event.Take to from) self.new) }
-        ensures served { OnOk result (IsServed (Event.Take to from)) }
         ensures err { OnErr result (self.new ≡ self.old) }
         ensures memory { IfErr result (λ e. e ≡ StepRefusal.NoMemory) }
     {
         let at = usize::from(to.number());
-        let back = self.site.tile_of(id.issuer);
         self.journal.entries.reserve(1)?;
-        self.links.reserve(to, back)?;
-        self.links.reserve(to, TileId::new(0))?;
-        match self.links.take(from, to) {
-            Some(Parcel::Data(packet)) => {
-                let TileDid { outcome, emit } = self.tiles[at].take_data(&self.site, packet);
-                put_out(&mut self.links, to, emit);
+        room_to_take(&self.site, &mut self.wires, from, to)?;
+        match self.wires.take(from, to) {
+            None => unreachable!(),
+            Some(parcel) => {
+                let TileDid { outcome, emit } = self.tiles[at].take(&self.site, parcel);
+                put_out(&mut self.wires, to, emit);
                 add(&mut self.journal.entries, Event::Take { to, from }, outcome);
                 Ok(())
             }
-            _ => unreachable!(),
         }
     }
 
@@ -229,7 +283,7 @@ impl Machine {
     pub fn next(&self) -> Option<Event>
         ensures { result ≡ next_take self.now.machine }
     {
-        next_take(&self.links)
+        next_take(&self.wires)
     }
 
     /// The closing lines: the credits of each send grant, the current activity of each tile from 2 on, the flights, and
@@ -242,11 +296,11 @@ impl Machine {
             alloc,
             &self.journal.setup,
             &self.tiles,
-            &self.links,
+            &self.wires,
             &mut lines,
         )?;
         tile_lines(self.journal.setup.tiles(), &self.tiles, &mut lines)?;
-        lines.push(AuditLine::Flights(self.links.flights()))?;
+        lines.push(AuditLine::Flights(self.wires.flights()))?;
         lines.push(AuditLine::Quiet(self.next().is_none()))?;
         Ok(Audit { lines })
     }

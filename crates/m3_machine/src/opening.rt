@@ -6,11 +6,10 @@ ghost use Rattle.m3_base.specs.Opening.{opening};
 ghost use Rattle.m3_base.specs.declared.setup_line.SetupLine.{SetupLine};
 ghost use Rattle.m3_machine.specs.Table.{HasContexts};
 ghost use Rattle.m3_machine.specs.Progress.{AtLine, Progress, CanInstall};
-ghost use Rattle.m3_machine.specs.Low.{HasLow, AreLow};
+ghost use Rattle.m3_machine.specs.Low.{HasLow};
 ghost use Rattle.m3_machine.specs.Machine.{empty_tiles};
 ghost use Rattle.m3_machine.specs.Seated.{seated_tiles};
 
-use m3_kernel::site::Site;
 use crate::tile::TilePart;
 use m3_base::ids::{ActId, EpId, GrantId, TileId};
 use m3_base::order::GrantLine;
@@ -18,6 +17,7 @@ use m3_base::packet::Fresh;
 use m3_base::setup::Setup;
 use m3_base::setup_line::SetupLine;
 use m3_core::context::Context;
+use m3_kernel::site::Site;
 use std::alloc::{AllocError, Global};
 
 fn no_contexts(alloc: Global) -> Result<Vec<Option<Context>>, AllocError>
@@ -104,7 +104,7 @@ pub fn contexts(alloc: Global, setup: &Setup) -> Result<Vec<Option<Context>>, Al
 
 fn no_tiles(alloc: Global) -> Result<Vec<TilePart>, AllocError>
     ensures tiles { IfOk result (λ v. v.items ≡ empty_tiles) }
-    ensures low { IfOk result (λ v. (length v.items ≡ 16) × AreLow 0 v.items) }
+    ensures count { IfOk result (λ v. length v.items ≡ 16) }
 {
     let mut tiles = Vec::new(alloc);
     for number in 0..16u8 {
@@ -120,9 +120,8 @@ pub fn seated(
     table: &mut Vec<Option<Context>>,
 ) -> Result<Vec<TilePart>, AllocError>
     requires count { length table.old.items ≡ 64 }
-    requires low { (a : ℕ) (c : Context) → slice_index_or table.old.items a None ≡ Some c → HasLow 0 c }
     ensures tiles { IfOk result (λ v. v.items ≡ seated_tiles table.old.items empty_tiles site.now.homes) }
-    ensures low { IfOk result (λ v. (length v.items ≡ 16) × AreLow 0 v.items) }
+    ensures count { IfOk result (λ v. length v.items ≡ 16) }
 {
     let mut tiles = no_tiles(alloc)?;
     for home in site.homes() {

@@ -1,18 +1,19 @@
 //! A tile's part: its current activity, whose commands it issues and whose packets it takes.
 
-ghost use Rattle.std.specs.Prelude.{◌≡◌, ◌∷◌, [], IfOk, OnOk, OnErr, IsSome, None, Some, option_copied};
+ghost use Rattle.std.specs.Prelude.{◌≡◌, ◌==◌, ◌∷◌, [], List, IfOk, OnOk, OnErr, IsSome, None, Some, is_some, option_copied};
+ghost use Rattle.std.specs.List.{list_any};
 ghost use Rattle.m3_core.specs.Conditions.{IsBufferFor};
 ghost use Rattle.m3_base.specs.Places.{target, is_here};
-ghost use Rattle.m3_kernel.specs.Parts.{closed_out};
-ghost use Rattle.m3_machine.specs.Tile.{tile_do, new_out, act_in, arrive_named, take_data};
+ghost use Rattle.m3_kernel.specs.Parts.{Heard, closed_out};
+ghost use Rattle.m3_machine.specs.Tile.{tile_do, new_out, act_in, stay_of, arrive_named, take_data, take_save, take_restore, tile_take};
 ghost use Rattle.m3_machine.specs.Telling.{said_issued, packet_issued, plain, credit_of, said_credit, said_came, out_came, NamesCredit, Lands, Does};
 ghost use Rattle.m3_kernel.specs.Parcels.{parcel_of, out_of};
 ghost use Rattle.m3_machine.specs.Machine.{empty_tile};
-ghost use Rattle.m3_machine.specs.TileView.{CanIssue, aim_at, seated_with};
+ghost use Rattle.m3_machine.specs.TileView.{CanIssue, aim_at, runs, seated_with};
 
 use crate::aims::aim;
+use crate::returning::may_return;
 use crate::shown::{Shown, fetched, front};
-use m3_kernel::site::Site;
 use m3_base::command::Command;
 use m3_base::event::{IdleWhy, Outcome, Said};
 use m3_base::ids::{ActId, FlightId, GrantId, TileId};
@@ -22,6 +23,7 @@ use m3_core::arrived::Arrived;
 use m3_core::context::Context;
 use m3_core::issued::Issued;
 use m3_core::parcel::{Emit, Parcel};
+use m3_kernel::site::Site;
 use std::alloc::{AllocError, Global};
 use std::marker::Model;
 
@@ -49,7 +51,8 @@ impl Model for TilePart {
     ghost view = { tile_value };
 }
 
-fn says(said: Said, emit: Option<Emit>) -> TileDid
+/// What is told, and what goes out.
+pub fn says(said: Said, emit: Option<Emit>) -> TileDid
     ensures outcome { result.outcome ≡ plain said }
     ensures emit { result.emit ≡ emit }
 {
@@ -59,6 +62,17 @@ fn says(said: Said, emit: Option<Emit>) -> TileDid
         restore: None,
     };
     TileDid { outcome, emit }
+}
+
+/// The outcome of an event that changed nothing.
+pub fn idle(why: IdleWhy) -> Outcome
+    ensures { result ≡ plain (Said.Idle why) }
+{
+    Outcome {
+        made: None,
+        said: Said::Idle(why),
+        restore: None,
+    }
 }
 
 /// An event that changed nothing.
@@ -207,6 +221,12 @@ fn land(site: &Site, context: &mut Context, packet: Packet) -> TileDid
     came(site, id, credit, arrived)
 }
 
+fn is_among(acts: &[ActId], act: ActId) -> bool
+    ensures { result ≡ list_any (λ a. a == act) acts.now }
+{
+    acts.iter().any(|other| other.number() == act.number())
+}
+
 impl TilePart {
     /// A tile without activities.
     pub fn new(alloc: Global, tile: TileId) -> TilePart
@@ -284,6 +304,71 @@ impl TilePart {
         match (&self.current, target_of(packet)) {
             (Some(context), Some(target)) => context.act().number() == target,
             _ => false,
+        }
+    }
+
+    /// Whether this activity is the current one.
+    fn runs(&self, act: ActId) -> bool
+        ensures { result ≡ runs act self.now.current }
+    {
+        match &self.current {
+            None => false,
+            Some(context) => context.act() == act,
+        }
+    }
+
+    /// Whether this activity has its home here.
+    fn houses(&self, act: ActId) -> bool
+        ensures { result ≡ is_some (stay_of act self.now) }
+    {
+        is_among(self.acts.as_slice(), act)
+    }
+
+    /// The current activity leaves with its whole context, where it is this one.
+    fn save(&mut self, act: ActId) -> TileDid
+        ensures { Does result self.new (take_save self.old act self.old.current) }
+    {
+        if !self.runs(act) {
+            return is_idle(IdleWhy::EmptyLink);
+        }
+        match self.current.take() {
+            None => unreachable!(),
+            Some(context) => {
+                let saved = Parcel::Saved {
+                    act,
+                    context,
+                    waiting: false,
+                    ended: false,
+                };
+                says(Said::Saving(act), to_kernel(saved))
+            }
+        }
+    }
+
+    /// The activity of this context runs here, where nobody does, it has its home here, and the context may come back.
+    fn restore(&mut self, site: &Site, context: Context) -> TileDid
+        ensures { (heard : List Heard) → Does result self.new (take_restore site.now self.old context heard self.old.current) }
+    {
+        let act = context.act();
+        if self.current.is_some() || !may_return(site, &context) || !self.houses(act) {
+            return is_idle(IdleWhy::EmptyLink);
+        }
+        self.current = Some(context);
+        says(Said::Current(act), None)
+    }
+
+    /// The tile takes a parcel. Data goes as `take_data` says. A Save of the current activity sends its context to the
+    /// kernel. A Restore comes where nobody runs, its activity has its home here, its context names activities of the
+    /// setup alone, and its next number and next tokens are at most 2,097,153. Anything else is dropped, as if the
+    /// link were empty. It takes no memory.
+    pub fn take(&mut self, site: &Site, parcel: Parcel) -> TileDid
+        ensures { Does result self.new (tile_take site.now self.old (parcel_of parcel)) }
+    {
+        match parcel {
+            Parcel::Data(packet) => self.take_data(site, packet),
+            Parcel::Save(act) => self.save(act),
+            Parcel::Restore { context, .. } => self.restore(site, context),
+            _ => is_idle(IdleWhy::EmptyLink),
         }
     }
 

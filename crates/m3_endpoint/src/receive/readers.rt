@@ -7,7 +7,7 @@ ghost use Rattle.m3_base.specs.Credit.{is_sent_by, is_owed};
 ghost use Rattle.m3_endpoint.specs.Counts.{Adds};
 ghost use Rattle.m3_endpoint.specs.Forms.{receive_form};
 ghost use Rattle.m3_endpoint.specs.Order.{is_smaller};
-ghost use Rattle.m3_endpoint.specs.Receive.{unread_at, token_in, message_at, unmarked_at, header_or_refusal, reply_header, marked_at, grant_in, size_in, closing_in, next_token_in, unread_count, fetched_count, token_at, queued_in};
+ghost use Rattle.m3_endpoint.specs.Receive.{unread_at, token_in, message_at, unmarked_at, header_or_refusal, reply_header, marked_at, grant_in, size_in, closing_in, next_token_in, unread_count, fetched_count, token_at, message_in_order, queued_in};
 
 use crate::counts::raise;
 use crate::fetched::{FetchedMessage, place_of};
@@ -155,6 +155,17 @@ impl ReceiveEp {
         ensures below { IfSome result (λ t. IfSome self.now (λ r. t < r.next_token)) }
     {
         token_of(&self.fetched, i)
+    }
+
+    /// The fetched message with `i` smaller tokens. None exactly where `i` isn't below `fetched_len`.
+    pub fn fetched_message(&self, i: usize) -> Option<&Message>
+        requires { IsSome self.now }
+        ensures { option_copied result ≡ message_in_order self.now i }
+    {
+        match self.fetched.get(i) {
+            None => None,
+            Some(fetched) => Some(fetched.message()),
+        }
     }
 
     /// How many messages that were sent through this grant, and aren't replies, are unread, or fetched and not being

@@ -1,15 +1,14 @@
 use Rattle.std.proofs.Common.{◌≡◌, ◌∙◌, sym, ap, Some, None}
-use Rattle.m3_machine.specs.Links.{lists_in}
 use Rattle.m3_machine.specs.Next.{next_take_at, next_take_on}
 use Rattle.m3_machine.proofs.Upward.{first_from, on_first, passes, comes, none_left, is_nothing, is_something}
 use Rattle.m3_machine.proofs.next.next_take.Goals as goal
 
 pub loop-to-init : goal.loop-to-init
-loop-to-init c = on_first (lists_in c.args.links.now.links.items)
+loop-to-init c = on_first c.args.wires.now.lists
 
 pub loop-to-preserved : goal.loop-to-preserved
 loop-to-preserved c =
-    let links = lists_in c.args.links.now.links.items in
+    let links = c.args.wires.now.lists in
     let inv : next_take_on links ≡ first_from (next_take_at links) c.loop-to.to = c.loop-to.invariant in
     let none : next_take_at links c.loop-to.to ≡ None =
     ap (next_take_at links) (sym c.new.ensures) ∙ sym c.next_take_at-next.ensures ∙ is_nothing c.next_take_at-next.result (sym c.is_some.ensures ∙ c.if-is_some.false) in
@@ -17,7 +16,7 @@ loop-to-preserved c =
 
 pub returns-then-is_some : goal.returns-then-is_some
 returns-then-is_some c =
-    let links = lists_in c.args.links.now.links.items in
+    let links = c.args.wires.now.lists in
     let inv : next_take_on links ≡ first_from (next_take_at links) c.loop-to.to = c.loop-to.invariant in
     let some = is_something c.next_take_at-next.result (sym c.is_some.ensures ∙ c.if-is_some.true) in
     let here : next_take_at links c.loop-to.to ≡ Some some.0 =
@@ -26,6 +25,6 @@ returns-then-is_some c =
 
 pub returns : goal.returns
 returns c =
-    let links = lists_in c.args.links.now.links.items in
+    let links = c.args.wires.now.lists in
     let inv : next_take_on links ≡ first_from (next_take_at links) c.loop-to.to = c.loop-to.invariant in
     sym (inv ∙ none_left (next_take_at links) c.loop-to.to c.loop-to-test.false)

@@ -1,10 +1,9 @@
 use Rattle.std.proofs.Common.{◌≡◌}
-use Rattle.m3_machine.specs.Links.{lists_in}
 use Rattle.m3_machine.specs.Next.{next_take_at, next_take_on}
 use Rattle.m3_machine.proofs.Upward.{first_from}
 use Rattle.m3_machine.proofs.next.next_take.Given as goal
 
 abbrev pub invariant-loop-to : goal.invariant-loop-to
 invariant-loop-to l =
-    let links = lists_in l.fn.links.links.items in
+    let links = l.fn.wires.lists in
     next_take_on links ≡ first_from (next_take_at links) l.to

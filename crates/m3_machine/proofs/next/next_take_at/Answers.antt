@@ -1,16 +1,16 @@
 use Rattle.std.proofs.Common.{◌≡◌, ◌∙◌, sym, ap, subst, true, false, Some, ℕ}
 use Rattle.m3_base.specs.declared.event.Event.{Event}
-use Rattle.m3_machine.specs.Links.{lists_in, place, list_at}
-use Rattle.m3_machine.specs.Next.{take_on, is_nil}
+use Rattle.m3_link.specs.Links.{place, list_at, is_nil}
+use Rattle.m3_machine.specs.Next.{take_on}
 use Rattle.m3_machine.proofs.Upward.{at_first, passes, comes, none_left, take_none, take_some}
 use Rattle.m3_machine.proofs.next.next_take_at.Goals as goal
 
 pub loop-from-init : goal.loop-from-init
-loop-from-init c = at_first (lists_in c.args.links.now.links.items) c.args.to
+loop-from-init c = at_first c.args.wires.now.lists c.args.to
 
 pub loop-from-preserved : goal.loop-from-preserved
 loop-from-preserved c =
-    let links = lists_in c.args.links.now.links.items in
+    let links = c.args.wires.now.lists in
     let to = c.args.to in
     let from = c.loop-from.from in
     let empty : is_nil (list_at links (place from to)) ≡ true =
@@ -19,7 +19,7 @@ loop-from-preserved c =
 
 pub returns-then-not-is_empty : goal.returns-then-not-is_empty
 returns-then-not-is_empty c =
-    let links = lists_in c.args.links.now.links.items in
+    let links = c.args.wires.now.lists in
     let to = c.args.to in
     let from = c.loop-from.from in
     let some : is_nil (list_at links (place from to)) ≡ false =
@@ -29,5 +29,5 @@ returns-then-not-is_empty c =
 
 pub returns : goal.returns
 returns c =
-    let links = lists_in c.args.links.now.links.items in
+    let links = c.args.wires.now.lists in
     sym (c.loop-from.invariant ∙ none_left (take_on links c.args.to) c.loop-from.from c.loop-from-test.false)

@@ -1,9 +1,0 @@
-use Rattle.std.proofs.Common.{◌≡◌, length, replicate, []}
-use Rattle.m3_machine.specs.Links.{lists_in}
-use Rattle.m3_machine.proofs.links.no_parcels.Given as goal
-
-abbrev pub invariant-loop : goal.invariant-loop
-invariant-loop l = record {
-  lists : lists_in l.links.items ≡ replicate l.counter [];
-  count : length l.links.items ≡ l.counter;
-}
