@@ -27,11 +27,10 @@ act_read tiles t x within e = ap current_act e ∙ sym (get_or-map current_act t
 
 -- the four parts, one after the other
 pub all_lines : (none credits tiled flown lines credit_part tile_part : List AuditLine) (f q : AuditLine) → none ≡ [] → credits ≡ none ++ credit_part → tiled ≡ credits ++ tile_part → flown ≡ tiled ++ f ∷ [] → lines ≡ flown ++ q ∷ []
-    → lines ≡ credit_part ++ tile_part ++ f ∷ q ∷ []
+    → lines ≡ credit_part ++ tile_part ++ (f ∷ []) ++ q ∷ []
 all_lines none credits tiled flown lines credit_part tile_part f q e0 e1 e2 e3 e4 =
     e4
     ∙ ap (λ ls. ls ++ q ∷ []) (e3 ∙ ap (λ ls. ls ++ f ∷ []) (e2 ∙ ap (λ ls. ls ++ tile_part) (e1 ∙ ap (λ ls. ls ++ credit_part) e0)))
-    ∙ append_assoc (credit_part ++ tile_part) (f ∷ []) (q ∷ [])
 
 pub is_none_from : {X : Type 0} (b : Bool) (o : Option X) → is_some o ≡ not b → b ≡ is_none o
 is_none_from true None e = refl

@@ -1,5 +1,5 @@
 -- The lines that close a machine's journal: on credits, on tiles, on flights, and whether nothing is to be done.
-use Rattle.std.specs.Prelude.{◌≡◌, ℕ, ◌+◌, ◌<◌, List, [], ◌∷◌, ◌++◌, length, min, is_none, slice_index_or, Option, Some, None}
+use Rattle.std.specs.Prelude.{◌≡◌, ℕ, ◌+◌, ◌<◌, List, [], ◌∷◌, ◌++◌, length, min, is_none, slice_index_or, false, Option, Some, None}
 use Rattle.m3_base.specs.declared.journal.AuditLine.{AuditLine}
 use Rattle.m3_base.specs.declared.packet.Packet.{Packet}
 use Rattle.m3_base.specs.declared.packet.Fresh.{Fresh}
@@ -7,10 +7,11 @@ use Rattle.m3_base.specs.Context.{Context}
 use Rattle.m3_base.specs.State.{Grant}
 use Rattle.m3_base.specs.Setup.{facts_of}
 use Rattle.m3_endpoint.specs.Counts.{most}
-use Rattle.m3_kernel.specs.Parts.{Tile, Parcel}
+use Rattle.m3_merge.specs.Parts.{Each}
+use Rattle.m3_kernel.specs.Parts.{Site, Tile, Parcel}
 use Rattle.m3_machine.specs.declared.tally.Tally.{Tally}
 use Rattle.m3_machine.specs.Machine.{Machine}
-use Rattle.m3_machine.specs.At.{each, on_links, here, contexts_in, packets_in}
+use Rattle.m3_machine.specs.At.{each, on_links, here, away, contexts_in, packets_in}
 use Rattle.m3_machine.specs.Tally.{last_of, held, flying, queued}
 use Rattle.m3_machine.specs.Next.{tile_lines, next_take}
 use Rattle.m3_machine.specs.Whole.{Whole}
@@ -80,4 +81,16 @@ abbrev pub lines : Whole → List AuditLine
 lines w =
     credit_lines (contexts_on w.machine.tiles w.machine.links) (packets_on w.machine.links) (facts_of w.setup).grants
     ++ tile_lines w.setup.tiles w.machine.tiles
-    ++ AuditLine.Flights (min most (flights w.machine)) ∷ AuditLine.Quiet (is_none (next_take w.machine)) ∷ []
+    ++ (AuditLine.Flights (min most (flights w.machine)) ∷ [])
+    ++ AuditLine.Quiet (is_none (next_take w.machine)) ∷ []
+
+-- ---- what holds of the machines of today
+
+-- no activity has a program, and no Yield was taken
+pub record IsPlain (h : Site) (m : Machine) : Type 0 where
+  pub programs : Each (λ x. x.has_program ≡ false) h.homes
+  pub yielded : (t : ℕ) → slice_index_or m.kernel.yielded t false ≡ false
+
+-- the kernel has no context
+abbrev pub NobodyAway : Machine → Type 0
+NobodyAway m = each away m.kernel.seats ≡ []
