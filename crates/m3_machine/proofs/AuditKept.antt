@@ -193,8 +193,10 @@ module _ (s : SetupValue) (v : IsValid s) (m : Machine) (kept : IsKept (site s) 
 
     abbrev H : ℕ → ℕ
     H g = min most (held g (contexts_on m.tiles m.links) (packets_on m.links))
+
     abbrev F : ℕ → ℕ
     F g = min most (flying g (λ a. last_of None a (contexts_on m.tiles m.links)) (packets_on m.links))
+
     abbrev Q : ℕ → ℕ
     Q g = min most (queued g (contexts_on m.tiles m.links))
 

@@ -11,7 +11,7 @@ use Rattle.m3_base.specs.State.{same_act}
 use Rattle.m3_core.specs.declared.parcel.Parcel.{Parcel as CodeParcel}
 use Rattle.m3_kernel.specs.Parts.{Parcel}
 use Rattle.m3_kernel.specs.Parcels.{parcel_of, parcels_of}
-use Rattle.m3_machine.specs.Links.{lists_in}
+use Rattle.m3_link.specs.Wires.{lists_in}
 use Rattle.m3_machine.specs.At.{each, on_links}
 use Rattle.m3_machine.specs.Tally.{last_of, listed, Enters}
 

@@ -4,11 +4,9 @@ ghost use Rattle.std.specs.Prelude.{◌≡◌, ◌<◌, ◌≤◌, ◌++◌, len
 ghost use Rattle.m3_base.specs.Setup.{IsValid, facts_of};
 ghost use Rattle.m3_base.specs.State.{grant_in};
 ghost use Rattle.m3_kernel.specs.Parcels.{parcels_of};
-ghost use Rattle.m3_machine.specs.Links.{lists_in};
 ghost use Rattle.m3_machine.specs.Closing.{IsSized, IsTally, line_at, credit_lines, contexts_on, packets_on};
 ghost use Rattle.m3_machine.specs.Next.{tile_lines};
 
-use crate::links::Links;
 use crate::roster::roster;
 use crate::tally::Tally;
 use crate::tile::TilePart;
@@ -16,11 +14,12 @@ use m3_base::ids::{ActId, GrantId, TileId};
 use m3_base::journal::AuditLine;
 use m3_base::packet::Fresh;
 use m3_base::setup::Setup;
+use m3_link::wires::Wires;
 use std::alloc::{AllocError, Global};
 
 /// The credits of all contexts and packets, counted.
-fn counted(alloc: Global, tiles: &[TilePart], links: &Links) -> Result<Tally, AllocError>
-    ensures { IfOk result (IsTally (contexts_on tiles.now (parcels_of (lists_in links.now.links.items))) (packets_on (parcels_of (lists_in links.now.links.items)))) }
+fn counted(alloc: Global, tiles: &[TilePart], links: &Wires) -> Result<Tally, AllocError>
+    ensures { IfOk result (IsTally (contexts_on tiles.now (parcels_of links.now.lists)) (packets_on (parcels_of links.now.lists))) }
 {
     let roster = roster(alloc, tiles, links)?;
     let mut tally = Tally::new(alloc)?;
@@ -52,11 +51,11 @@ pub fn credit_lines(
     alloc: Global,
     setup: &Setup,
     tiles: &[TilePart],
-    wires: &Wires,
+    links: &Wires,
     lines: &mut Vec<AuditLine>,
 ) -> Result<(), AllocError>
     requires { IsValid setup.now }
-    ensures { OnOk result (lines.new.items ≡ lines.old.items ++ credit_lines (contexts_on tiles.now (parcels_of (lists_in links.now.links.items))) (packets_on (parcels_of (lists_in links.now.links.items))) (facts_of setup.now).grants) }
+    ensures { OnOk result (lines.new.items ≡ lines.old.items ++ credit_lines (contexts_on tiles.now (parcels_of links.now.lists)) (packets_on (parcels_of links.now.lists)) (facts_of setup.now).grants) }
 {
     let tally = counted(alloc, tiles, links)?;
     for number in 1..4097u16 {

@@ -4,13 +4,13 @@ ghost use Rattle.std.specs.Prelude.{◌≡◌, ℕ, ◌∷◌, [], length, repli
 ghost use Rattle.m3_kernel.specs.Parcels.{parcel_of, parcels_of};
 ghost use Rattle.m3_machine.specs.At.{each, on_links, here, contexts_in};
 ghost use Rattle.m3_machine.specs.Closing.{contexts_on};
-ghost use Rattle.m3_machine.specs.Links.{lists_in};
+ghost use Rattle.m3_link.specs.Wires.{lists_in};
 ghost use Rattle.m3_machine.specs.Tally.{listed, last_of, Enters};
 
-use crate::links::Links;
 use crate::tile::TilePart;
 use m3_core::context::Context;
 use m3_core::parcel::Parcel;
+use m3_link::wires::Wires;
 use std::alloc::{AllocError, Global};
 use std::collections::VecDeque;
 
@@ -83,10 +83,10 @@ fn enter_links<'a>(roster: &mut Vec<Option<&'a Context>>, links: &'a [VecDeque<P
 pub fn roster<'a>(
     alloc: Global,
     tiles: &'a [TilePart],
-    links: &'a Links,
+    links: &'a Wires,
 ) -> Result<Vec<Option<&'a Context>>, AllocError>
     ensures count { IfOk result (λ r. length r.items ≡ 256) }
-    ensures found { IfOk result (λ r. (a : ℕ) → listed r.items a ≡ last_of None a (contexts_on tiles.now (parcels_of (lists_in links.now.links.items)))) }
+    ensures found { IfOk result (λ r. (a : ℕ) → listed r.items a ≡ last_of None a (contexts_on tiles.now (parcels_of links.now.lists))) }
 {
     let mut roster = nobody(alloc)?;
     enter_tiles(&mut roster, tiles);

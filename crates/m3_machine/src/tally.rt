@@ -6,10 +6,9 @@ ghost use Rattle.m3_base.specs.State.{is_number};
 ghost use Rattle.m3_base.specs.Credit.{gives_back_by, gives_back_in};
 ghost use Rattle.m3_kernel.specs.Parcels.{parcel_of, parcels_of};
 ghost use Rattle.m3_machine.specs.At.{each, on_links, here, contexts_in, packets_in};
-ghost use Rattle.m3_machine.specs.Links.{lists_in};
+ghost use Rattle.m3_link.specs.Wires.{lists_in};
 ghost use Rattle.m3_machine.specs.Tally.{listed, carries, Counts};
 
-use crate::links::Links;
 use crate::tile::TilePart;
 use m3_base::command::Answer;
 use m3_base::packet::{Fresh, Packet};
@@ -18,6 +17,7 @@ use m3_core::flying::{Flying, Kind};
 use m3_core::parcel::Parcel;
 use m3_endpoint::counts::raise;
 use m3_endpoint::endpoint::Record;
+use m3_link::wires::Wires;
 use std::alloc::{AllocError, Global};
 use std::collections::VecDeque;
 

@@ -4,7 +4,7 @@ use Rattle.m3_base.specs.declared.journal.AuditLine.{AuditLine}
 use Rattle.m3_base.specs.State.{grant_in}
 use Rattle.m3_base.specs.Setup.{facts_of}
 use Rattle.m3_kernel.specs.Parcels.{parcels_of}
-use Rattle.m3_machine.specs.Links.{lists_in}
+use Rattle.m3_link.specs.Wires.{lists_in}
 use Rattle.m3_machine.specs.Closing.{contexts_on, packets_on, line_at, tally_lines}
 use Rattle.m3_machine.proofs.Crediting.{lines_more, line_joined, few_grants, tally_is, lines_end, no_line}
 use Rattle.m3_machine.proofs.audit.credit_lines.Goals as goal
@@ -30,7 +30,7 @@ returns c =
     let t = c.in_ok-tally.tally in
     let gs = (facts_of c.args.setup.now).grants in
     let n = c.loop-number.number in
-    let links = parcels_of (lists_in c.args.links.now.links.items) in
+    let links = parcels_of c.args.links.now.lists in
     let few = few_grants c.args.setup.now c.requires in
     sym (c.loop-number.invariant ∙ lines_end t gs n few c.loop-number-test.false c.loop-number.lines.items)
     ∙ ap (λ l. c.args.lines.now.items ++ l) (tally_is t (contexts_on c.args.tiles.now links) (packets_on links) gs c.in_ok-tally.ensures few)

@@ -15,10 +15,11 @@ loop-parcel-init c =
 
 pub loop-parcel-preserved : goal.loop-parcel-preserved
 loop-parcel-preserved c =
-    let has = λ (ps : List CodeParcel). each contexts_in (map parcel_of ps) in
-    (c.enter_parcel.ensures.size ∙ c.loop-parcel.invariant.0,
+    let has = λ (ps : List CodeParcel). each contexts_in (map parcel_of ps) in (
+      c.enter_parcel.ensures.size ∙ c.loop-parcel.invariant.0,
       entered (has c.args.link.now.items) (has (c.loop-parcel.parcel-iterator.head.now ++ c.loop-parcel.parcel-iterator.wrapped.now)) (contexts_in (parcel_of c.in-Some.parcel.now)) (has (c.next.new.self.head.now ++ c.next.new.self.wrapped.now)) c.args.roster.now.items c.loop-parcel.roster.items c.enter_parcel.new.roster.items
-      (ap has c.in-Some.ensures.steps) c.loop-parcel.invariant.1 c.enter_parcel.ensures)
+          (ap has c.in-Some.ensures.steps) c.loop-parcel.invariant.1 c.enter_parcel.ensures,
+    )
 
 pub returns : goal.returns
 returns c =

@@ -1,6 +1,6 @@
 use Rattle.std.proofs.Common.{◌≡◌, length, drop}
 use Rattle.m3_kernel.specs.Parcels.{parcels_of}
-use Rattle.m3_machine.specs.Links.{lists_in}
+use Rattle.m3_link.specs.Wires.{lists_in}
 use Rattle.m3_machine.specs.At.{on_links, contexts_in}
 use Rattle.m3_machine.proofs.Entering.{LeftOf}
 use Rattle.m3_machine.proofs.roster.enter_links.Given as goal

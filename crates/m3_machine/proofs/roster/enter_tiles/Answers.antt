@@ -10,10 +10,11 @@ pub loop-tile-preserved : goal.loop-tile-preserved
 loop-tile-preserved c =
     let tiles = c.args.tiles.now in
     let i = c.loop-tile.tile-index in
-    let x = c.tile-item.result in
-    (c.enter_tile.ensures.size ∙ c.loop-tile.invariant.0,
+    let x = c.tile-item.result in (
+      c.enter_tile.ensures.size ∙ c.loop-tile.invariant.0,
       entered (each here tiles) (each here (drop i tiles)) (here x) (each here (drop (i + 1) tiles)) c.args.roster.now.items c.loop-tile.roster.items c.enter_tile.new.roster.items
-      (each_more here tiles i x c.loop-tile-test.true c.tile-item.is) c.loop-tile.invariant.1 c.enter_tile.ensures)
+          (each_more here tiles i x c.loop-tile-test.true c.tile-item.is) c.loop-tile.invariant.1 c.enter_tile.ensures,
+    )
 
 pub returns : goal.returns
 returns c =

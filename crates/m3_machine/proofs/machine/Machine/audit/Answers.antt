@@ -4,7 +4,6 @@ use Rattle.m3_base.specs.Setup.{facts_of}
 use Rattle.m3_endpoint.specs.Counts.{most}
 use Rattle.m3_kernel.specs.Parts.{Tile}
 use Rattle.m3_kernel.specs.Parcels.{parcels_of}
-use Rattle.m3_machine.specs.Links.{lists_in}
 use Rattle.m3_machine.specs.Next.{tile_lines, next_take}
 use Rattle.m3_machine.specs.Closing.{flights, credit_lines, contexts_on, packets_on}
 use Rattle.m3_machine.specs.Whole.{Whole}
@@ -17,7 +16,7 @@ returns c =
     let w = c.args.self.now in
     let inside = c.self.inside in
     let credits_of = λ (v : Whole). credit_lines (contexts_on v.machine.tiles v.machine.links) (packets_on v.machine.links) (facts_of v.setup).grants in
-    let links = parcels_of (lists_in inside.links.links.items) in
+    let links = parcels_of inside.wires.lists in
     let credits : credit_lines (contexts_on c.deref.result.now links) (packets_on links) (facts_of inside.journal.setup).grants ≡ credits_of w =
     ap (λ (ts : List Tile). credit_lines (contexts_on ts links) (packets_on links) (facts_of inside.journal.setup).grants) c.deref.ensures.value ∙ ap credits_of c.self.view_is in
     let tiled : tile_lines c.tiles.result c.deref-2.result.now ≡ tile_lines w.setup.tiles w.machine.tiles =
@@ -25,7 +24,7 @@ returns c =
     ∙ ap (λ (ts : List Tile). tile_lines inside.journal.setup.tiles ts) c.deref-2.ensures.value
     ∙ ap (λ (v : Whole). tile_lines v.setup.tiles v.machine.tiles) c.self.view_is in
     let flown : c.flights.result ≡ min most (flights w.machine) =
-    c.flights.ensures ∙ ap (min most) (flights_are (lists_in inside.links.links.items)) ∙ ap (λ (v : Whole). min most (flights v.machine)) c.self.view_is in
+    c.flights.ensures ∙ ap (min most) (flights_are inside.wires.lists) ∙ ap (λ (v : Whole). min most (flights v.machine)) c.self.view_is in
     let quiet : c.is_none.result ≡ is_none (next_take w.machine) = is_none_from c.is_none.result c.next.result c.is_none.ensures ∙ ap is_none c.next.ensures in
     all_lines
     c.new-lines.result.items

@@ -3,7 +3,7 @@ use Rattle.std.specs.declared.collections.VecDeque.{VecDeque}
 use Rattle.std.specs.declared.alloc.Global.{Global}
 use Rattle.m3_core.specs.declared.parcel.Parcel.{Parcel as CodeParcel}
 use Rattle.m3_kernel.specs.Parcels.{parcel_of, parcels_of}
-use Rattle.m3_machine.specs.Links.{lists_in}
+use Rattle.m3_link.specs.Wires.{lists_in}
 use Rattle.m3_machine.specs.At.{each, on_links, contexts_in, packets_in}
 use Rattle.m3_machine.specs.Tally.{listed}
 use Rattle.m3_machine.proofs.Entering.{links_more, links_past}

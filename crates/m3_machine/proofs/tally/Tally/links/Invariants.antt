@@ -1,6 +1,6 @@
 use Rattle.std.proofs.Common.{drop}
 use Rattle.m3_kernel.specs.Parcels.{parcels_of}
-use Rattle.m3_machine.specs.Links.{lists_in}
+use Rattle.m3_link.specs.Wires.{lists_in}
 use Rattle.m3_machine.specs.At.{on_links, contexts_in, packets_in}
 use Rattle.m3_machine.specs.Tally.{listed}
 use Rattle.m3_machine.proofs.Tallying.{LeftOf}
