@@ -4,12 +4,12 @@ use Rattle.std.specs.Prelude.{◌==◌, ◌||◌, ◌&&◌, if◌then◌else◌}
 use Rattle.std.specs.List.{list_any}
 use Rattle.std.proofs.lemmas.Bool.Decides.{nat_tests}
 use Rattle.m3_base.specs.declared.journal.AuditLine.{AuditLine}
+use Rattle.m3_base.specs.declared.event.Entry.{Entry}
 use Rattle.m3_base.specs.declared.packet.Fresh.{Fresh}
 use Rattle.m3_base.specs.declared.packet.Packet.{Packet}
 use Rattle.m3_base.specs.declared.order.GrantLine.{GrantLine}
 use Rattle.m3_base.specs.declared.setup_line.SetupLine.{SetupLine}
 use Rattle.m3_base.specs.Context.{Context}
-use Rattle.m3_base.specs.Audit.{audit_lines}
 use Rattle.m3_base.specs.Driver.{next_event}
 use Rattle.m3_base.specs.Credit as ideal
 use Rattle.m3_base.specs.Credit.{credits}
@@ -29,13 +29,12 @@ use Rattle.m3_kernel.specs.Kernel.{is_under_close}
 use Rattle.m3_kernel.specs.Parts.{Home, Site}
 use Rattle.m3_machine.specs.Machine.{Machine, with_seats, seated_at_opening, context_or_new, tile_at}
 use Rattle.m3_machine.specs.At.{at, places_of, each, here, away, held_by, on_links, contexts_in, packets_in, all_contexts, all_packets, all_closed, is_in, closed_from}
-use Rattle.m3_machine.specs.Closing.{NobodyAway, IsPlain, contexts_on, packets_on, credit_line, credit_lines_from, credit_lines, flights}
+use Rattle.m3_machine.specs.Closing.{NobodyAway, IsPlain, contexts_on, packets_on, credit_line, credit_lines_from, credit_lines, flights, lines, ideal_lines, IsCounted}
 use Rattle.m3_machine.specs.Kept.{IsKept}
 use Rattle.m3_machine.specs.Next.{next_take, tile_lines}
 use Rattle.m3_machine.specs.Sound.{IsShut}
 use Rattle.m3_machine.specs.Tally.{last_of, held, flying, queued}
 use Rattle.m3_machine.specs.Whole.{Whole, site, opened}
-use Rattle.m3_machine.specs.Closing as closing
 use Rattle.m3_machine.proofs.Audited.{held_is, queued_is, flying_is}
 use Rattle.m3_machine.proofs.Flying.{none_held, length_by_name}
 use Rattle.m3_machine.proofs.Nexts.{tile_lines_are}
@@ -225,8 +224,10 @@ module _ (s : SetupValue) (v : IsValid s) (m : Machine) (kept : IsKept (site s) 
         let same : length (at m).flights ≡ flights m = length_by_name (all_packets m) ∙ ap (λ ps. length ps) packets_are in
         ap (λ n. AuditLine.Flights n ∷ []) (let z : min most (flights m) ≡ length (at m).flights = omega arith in z)
 
-    -- all lines
-    pub audited : (w : Whole) → w.setup ≡ s → w.machine ≡ m → length (at m).flights ≤ most → closing.lines w ≡ audit_lines s.tiles (at m) (places_of (site s) m) []
-    audited w own its le =
-        (λ k. closing.lines (record { setup = own k; machine = its k; entries = w.entries }))
-        ∙ (λ k. credits_are k ++ sym (tile_lines_are s.tiles (site s) m) k ++ flights_are le k ++ AuditLine.Quiet (is_none (sym quiet_is k)) ∷ [])
+    pub audited : length (at m).flights ≤ most → (entries : List Entry) → lines (record { setup = s; machine = m; entries = entries }) ≡ ideal_lines (record { setup = s; machine = m; entries = entries })
+    audited le entries k =
+        credits_are k ++ sym (tile_lines_are s.tiles (site s) m) k ++ flights_are le k ++ AuditLine.Quiet (is_none (sym quiet_is k)) ∷ []
+
+-- the lines are those of the ideal state and the places
+pub audit_is : (w : Whole) → IsValid w.setup → w.machine.kernel ≡ (opened w.setup).kernel → IsCounted w → lines w ≡ ideal_lines w
+audit_is w v kernel c = audited w.setup v w.machine c.kept kernel (ap (λ k. each away k.seats) kernel ∙ c.nobody) c.flights_few w.entries

@@ -15,6 +15,7 @@ use Rattle.m3_base.specs.declared.event.Outcome.{Outcome}
 use Rattle.m3_base.specs.declared.event.Said.{Said}
 use Rattle.m3_base.specs.declared.order.GrantLine.{GrantLine}
 use Rattle.m3_base.specs.declared.order.Order.{Order}
+use Rattle.m3_base.specs.declared.setup_line.SetupLine.{SetupLine}
 use Rattle.m3_base.specs.declared.step.Step.{Step}
 use Rattle.m3_base.specs.Context.{Context, Flying, Free, endpoint, with_endpoint}
 use Rattle.m3_base.specs.Entries.{command_steps, await_steps, turn_steps, landing_steps, then_closed, close_steps, order_steps, steps_of, next_state, ran_to, after}
@@ -23,6 +24,9 @@ use Rattle.m3_base.specs.Grants.{form, make_refusal, revoke_refusal, may_close, 
 use Rattle.m3_base.specs.Issue.{Issued, issue}
 use Rattle.m3_base.specs.Keyed.{replaced, without}
 use Rattle.m3_base.specs.Land.{land, bytes_at, has_live, has_closing, flies_at, flying_at, closed_at}
+use Rattle.m3_base.specs.Opening.{opening}
+use Rattle.m3_endpoint.specs.Counts.{most}
+use Rattle.m3_laws.proofs.Quiets.{nothing_flies}
 use Rattle.m3_base.specs.State.{State, Grant, Closed, Done, context_of, put_context, grant_in, holder, holder_ep, parent_in, parent_of, undone}
 use Rattle.m3_base.specs.Steps.{Next, Frees, Is_done, Sends_close, Is_closed, Starts_closing, istep, Ran, irun, on_from, with_word, then_say, issue_in, issued_in, await_in, message_in, credit_in, install_in, close_in, land_in, settle_in, answer_in, answered_in, make_in, make_for, revoke_in, send_close_in, free_in, closed_in, done_in, with_packet}
 use Rattle.m3_machine.proofs.Flying.{length_new}
@@ -245,9 +249,16 @@ next_few s e = by_ran (irun (steps_of e.event e.outcome) s) (ran_few (steps_of e
     by_ran None k = let z : length s.flights ≤ length s.flights + 2 = omega arith in z
     by_ran (Some r) k = let two = two_steps e.event e.outcome in let z : length r.state.flights ≤ length s.flights + 2 = omega arith in z
 
-pub after_few : (s : State) (es : List Entry) → length (after s es).flights ≤ length s.flights + 2 * length es
+after_few : (s : State) (es : List Entry) → length (after s es).flights ≤ length s.flights + 2 * length es
 after_few s [] = let z : length s.flights ≤ length s.flights + 2 * 0 = omega arith in z
 after_few s (e ∷ es) =
     let one' = next_few s e in
     let more = after_few (next_state s e) es in
     let z : length (after (next_state s e) es).flights ≤ length s.flights + 2 * suc (length es) = omega arith in z
+
+-- as many entries as a journal may have leave so few flights that they are counted
+pub journal_few : (memory : ℕ) (lines : List SetupLine) (es : List Entry) → length es ≤ 2097152 → length (after (opening memory lines) es).flights ≤ most
+journal_few memory lines es few =
+    let none : length (opening memory lines).flights ≡ 0 = ap (λ ps. length ps) (nothing_flies memory lines) in
+    let bound = after_few (opening memory lines) es in
+    omega arith

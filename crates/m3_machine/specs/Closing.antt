@@ -1,8 +1,9 @@
 -- The lines that close a machine's journal: on credits, on tiles, on flights, and whether nothing is to be done.
-use Rattle.std.specs.Prelude.{◌≡◌, ℕ, ◌+◌, ◌<◌, List, [], ◌∷◌, ◌++◌, length, min, is_none, slice_index_or, false, Option, Some, None}
+use Rattle.std.specs.Prelude.{◌≡◌, ℕ, ◌+◌, ◌<◌, ◌≤◌, List, [], ◌∷◌, ◌++◌, length, min, is_none, slice_index_or, false, Option, Some, None}
 use Rattle.m3_base.specs.declared.journal.AuditLine.{AuditLine}
 use Rattle.m3_base.specs.declared.packet.Packet.{Packet}
 use Rattle.m3_base.specs.declared.packet.Fresh.{Fresh}
+use Rattle.m3_base.specs.Audit.{audit_lines}
 use Rattle.m3_base.specs.Context.{Context}
 use Rattle.m3_base.specs.State.{Grant}
 use Rattle.m3_base.specs.Setup.{facts_of}
@@ -11,10 +12,11 @@ use Rattle.m3_merge.specs.Parts.{Each}
 use Rattle.m3_kernel.specs.Parts.{Site, Tile, Parcel}
 use Rattle.m3_machine.specs.declared.tally.Tally.{Tally}
 use Rattle.m3_machine.specs.Machine.{Machine}
-use Rattle.m3_machine.specs.At.{each, on_links, here, away, contexts_in, packets_in}
+use Rattle.m3_machine.specs.At.{at, places_of, each, on_links, here, away, contexts_in, packets_in}
 use Rattle.m3_machine.specs.Tally.{last_of, held, flying, queued}
 use Rattle.m3_machine.specs.Next.{tile_lines, next_take}
-use Rattle.m3_machine.specs.Whole.{Whole}
+use Rattle.m3_machine.specs.Kept.{IsKept}
+use Rattle.m3_machine.specs.Whole.{Whole, site, opened}
 
 -- ---- what is counted
 
@@ -84,7 +86,7 @@ lines w =
     ++ (AuditLine.Flights (min most (flights w.machine)) ∷ [])
     ++ AuditLine.Quiet (is_none (next_take w.machine)) ∷ []
 
--- ---- what holds of the machines of today
+-- ---- the lines that the ideal state and the places have
 
 -- no activity has a program, and no Yield was taken
 pub record IsPlain (h : Site) (m : Machine) : Type 0 where
@@ -94,3 +96,12 @@ pub record IsPlain (h : Site) (m : Machine) : Type 0 where
 -- the kernel has no context
 abbrev pub NobodyAway : Machine → Type 0
 NobodyAway m = each away m.kernel.seats ≡ []
+
+-- a kept machine whose kernel has no context, with so few flights that they are counted
+pub record IsCounted (w : Whole) : Type 0 where
+  pub kept : IsKept (site w.setup) w.machine
+  pub nobody : NobodyAway (opened w.setup)
+  pub flights_few : length (at w.machine).flights ≤ most
+
+abbrev pub ideal_lines : Whole → List AuditLine
+ideal_lines w = audit_lines w.setup.tiles (at w.machine) (places_of (site w.setup) w.machine) []
