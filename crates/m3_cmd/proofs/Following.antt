@@ -1,5 +1,5 @@
 -- A machine's journal follows the events that it makes.
-use Rattle.std.proofs.Common.{◌≡◌, ℕ, ◌<◌, ◌≤◌, Bool, true, false, List, [], get_or, ◌∷◌, ◌++◌, length, map, append_assoc, append-nil, Some, None, refl, sym, ap, ◌∙◌, subst, arith}
+use Rattle.std.proofs.Common.{◌≡◌, ℕ, ◌<◌, ◌≤◌, true, false, List, [], get_or, ◌∷◌, ◌++◌, length, append_assoc, append-nil, Some, None, refl, sym, ap, ◌∙◌, subst, arith}
 use Rattle.std.specs.Prelude.{not, ◌&&◌, nat_lt}
 use Rattle.std.proofs.lemmas.Bool.Decides.{nat_tests}
 use Rattle.std.proofs.lemmas.List.{map-append}
@@ -16,8 +16,8 @@ use Rattle.m3_base.specs.Setup.{SetupValue, IsValid, is_machine}
 use Rattle.m3_base.proofs.Replies.{seen_given}
 use Rattle.m3_machine.specs.At.{at, places_of}
 use Rattle.m3_machine.specs.Closing.{NobodyAway, IsCounted, ideal_lines}
-use Rattle.m3_machine.specs.Kept.{IsKept, IsWithin, PlacesRun, Ran}
-use Rattle.m3_machine.specs.Whole.{Whole, Steps, entry, site, opened, opened_whole, IsServed, IsOfSetup as HasAct}
+use Rattle.m3_machine.specs.Kept.{IsKept, PlacesRun, Ran}
+use Rattle.m3_machine.specs.Whole.{Whole, Steps, entry, site, opened, opened_whole, IsServed}
 use Rattle.m3_machine.specs.Machine.{mstep}
 use Rattle.m3_machine.proofs.Contexts.{first_free}
 use Rattle.m3_machine.proofs.Declared.{declared_home}
