@@ -1,5 +1,5 @@
 -- A step of the ideal machine adds one flight at most, so the entries of a journal leave twice as many at most.
-use Rattle.std.proofs.Common.{◌≡◌, ℕ, suc, ◌+◌, ◌*◌, ◌<◌, ◌≤◌, ◌&&◌, Bool, true, false, not, List, [], ◌∷◌, length, Option, Some, None, refl, sym, ap, subst, ◌∙◌, arith}
+use Rattle.std.proofs.Common.{◌≡◌, ℕ, suc, ◌+◌, ◌*◌, ◌≤◌, ◌&&◌, Bool, true, false, not, List, [], ◌∷◌, length, Option, Some, None, refl, ap, arith}
 use Rattle.std.specs.Prelude.{if◌then◌else◌}
 use Rattle.m3_base.specs.declared.ids.FlightId.{FlightId}
 use Rattle.m3_base.specs.declared.message.Message.{Message}
@@ -22,7 +22,6 @@ use Rattle.m3_base.specs.Entries.{command_steps, await_steps, turn_steps, landin
 use Rattle.m3_base.specs.Flight.{flight, name_of, same_name, change_flight, end_flight}
 use Rattle.m3_base.specs.Grants.{form, make_refusal, revoke_refusal, may_close, change_grant, is_closed_grant, close_sent, kernel_id}
 use Rattle.m3_base.specs.Issue.{Issued, issue}
-use Rattle.m3_base.specs.Keyed.{replaced, without}
 use Rattle.m3_base.specs.Land.{land, bytes_at, has_live, has_closing, flies_at, flying_at, closed_at}
 use Rattle.m3_base.specs.Opening.{opening}
 use Rattle.m3_endpoint.specs.Counts.{most}

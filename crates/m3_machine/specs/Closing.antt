@@ -1,11 +1,11 @@
 -- The lines that close a machine's journal: on credits, on tiles, on flights, and whether nothing is to be done.
-use Rattle.std.specs.Prelude.{◌≡◌, ℕ, ◌+◌, ◌<◌, ◌≤◌, List, [], ◌∷◌, ◌++◌, length, min, is_none, slice_index_or, false, Option, Some, None}
+use Rattle.std.specs.Prelude.{◌≡◌, ℕ, ◌+◌, ◌<◌, ◌≤◌, List, [], ◌∷◌, ◌++◌, length, min, is_none, slice_index_or, true, false, Option, Some, None, if◌then◌else◌}
 use Rattle.m3_base.specs.declared.journal.AuditLine.{AuditLine}
 use Rattle.m3_base.specs.declared.packet.Packet.{Packet}
 use Rattle.m3_base.specs.declared.packet.Fresh.{Fresh}
 use Rattle.m3_base.specs.Audit.{audit_lines}
 use Rattle.m3_base.specs.Context.{Context}
-use Rattle.m3_base.specs.State.{Grant}
+use Rattle.m3_base.specs.State.{Grant, is_live}
 use Rattle.m3_base.specs.Setup.{facts_of}
 use Rattle.m3_endpoint.specs.Counts.{most}
 use Rattle.m3_merge.specs.Parts.{Each}
@@ -57,6 +57,11 @@ module _ (held flying queued : ℕ → ℕ) where
   credit_lines_from g [] = []
   credit_lines_from g (x ∷ xs) = credit_line g x.fresh ++ credit_lines_from (g + 1) xs
 
+  -- of those of them that are live
+  abbrev pub live_lines_from : ℕ → List Grant → List AuditLine
+  live_lines_from g [] = []
+  live_lines_from g (x ∷ xs) = (if is_live x.standing then credit_line g x.fresh else []) ++ live_lines_from (g + 1) xs
+
 -- as a tally has them
 abbrev pub tally_line : Tally → ℕ → Fresh → List AuditLine
 tally_line t = credit_line (λ g. slice_index_or t.held.items g 0) (λ g. slice_index_or t.flying.items g 0) (λ g. slice_index_or t.queued.items g 0)
@@ -69,9 +74,21 @@ line_at t g None = []
 line_at t g (Some x) = tally_line t g x.fresh
 
 -- as these contexts and these packets have them
-abbrev pub credit_lines : List Context → List Packet → List Grant → List AuditLine
-credit_lines cs ps =
-    credit_lines_from (λ g. min most (held g cs ps)) (λ g. min most (flying g (λ a. last_of None a cs) ps)) (λ g. min most (queued g cs)) 1
+module _ (cs : List Context) (ps : List Packet) where
+  abbrev pub held_count : ℕ → ℕ
+  held_count g = min most (held g cs ps)
+
+  abbrev pub flying_count : ℕ → ℕ
+  flying_count g = min most (flying g (λ a. last_of None a cs) ps)
+
+  abbrev pub queued_count : ℕ → ℕ
+  queued_count g = min most (queued g cs)
+
+  abbrev pub credit_lines : List Grant → List AuditLine
+  credit_lines = credit_lines_from held_count flying_count queued_count 1
+
+  abbrev pub live_lines : List Grant → List AuditLine
+  live_lines = live_lines_from held_count flying_count queued_count 1
 
 -- ---- all lines
 
@@ -92,6 +109,10 @@ lines w =
 pub record IsPlain (h : Site) (m : Machine) : Type 0 where
   pub programs : Each (λ x. x.has_program ≡ false) h.homes
   pub yielded : (t : ℕ) → slice_index_or m.kernel.yielded t false ≡ false
+
+-- a grant whose Close was sent is not live
+abbrev pub SentAreShut : List Grant → Type 0
+SentAreShut gs = Each (λ x. x.close_sent ≡ true → is_live x.standing ≡ false) gs
 
 -- the kernel has no context
 abbrev pub NobodyAway : Machine → Type 0
