@@ -19,7 +19,7 @@ length_if : (b : Bool) (n : ℕ) (xs ys : List Packet) → length xs ≡ n → l
 length_if true n xs ys e f = e
 length_if false n xs ys e f = f
 
-length_new : (p : Packet) (ps : List Packet) → length (new_flight p ps) ≡ suc (length ps)
+pub length_new : (p : Packet) (ps : List Packet) → length (new_flight p ps) ≡ suc (length ps)
 length_new p [] = refl
 length_new p (q ∷ ps) =
     length_if (name_before (name_of p) (name_of q)) (suc (suc (length ps))) (p ∷ q ∷ ps) (q ∷ new_flight p ps) refl (ap (λ n. suc n) (length_new p ps))

@@ -1,8 +1,7 @@
 -- What the driver does next in a machine whose activities have no program.
-use Rattle.std.proofs.Common.{◌≡◌, ℕ, zero, suc, ◌+◌, ◌∙◌, Bool, true, false, List, [], ◌∷◌, ◌++◌, length, map, get_or, Option, Some, None, refl, sym, ap, subst}
+use Rattle.std.proofs.Common.{◌≡◌, ℕ, ◌+◌, ◌∙◌, Bool, true, false, List, [], ◌∷◌, ◌++◌, length, map, get_or, Option, Some, None, refl, sym, ap}
 use Rattle.std.specs.Prelude.{not, ◌&&◌, ◌||◌, ◌==◌, if◌then◌else◌}
 use Rattle.m3_base.specs.declared.event.Event.{Event}
-use Rattle.m3_base.specs.declared.setup_line.SetupLine.{SetupLine}
 use Rattle.m3_base.specs.declared.ids.FlightId.{FlightId}
 use Rattle.m3_base.specs.Flight.{name_of}
 use Rattle.m3_base.specs.State.{State, Standing, Live, Closing, Closed, Done, Grant, context_of, same_act}

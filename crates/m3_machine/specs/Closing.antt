@@ -1,20 +1,22 @@
 -- The lines that close a machine's journal: on credits, on tiles, on flights, and whether nothing is to be done.
-use Rattle.std.specs.Prelude.{◌≡◌, ℕ, ◌+◌, ◌<◌, List, [], ◌∷◌, ◌++◌, length, min, is_none, slice_index_or, false, Option, Some, None}
+use Rattle.std.specs.Prelude.{◌≡◌, ℕ, ◌+◌, ◌<◌, ◌≤◌, List, [], ◌∷◌, ◌++◌, length, min, is_none, slice_index_or, true, false, Option, Some, None, if◌then◌else◌}
 use Rattle.m3_base.specs.declared.journal.AuditLine.{AuditLine}
 use Rattle.m3_base.specs.declared.packet.Packet.{Packet}
 use Rattle.m3_base.specs.declared.packet.Fresh.{Fresh}
+use Rattle.m3_base.specs.Audit.{audit_lines}
 use Rattle.m3_base.specs.Context.{Context}
-use Rattle.m3_base.specs.State.{Grant}
+use Rattle.m3_base.specs.State.{Grant, is_live}
 use Rattle.m3_base.specs.Setup.{facts_of}
 use Rattle.m3_endpoint.specs.Counts.{most}
 use Rattle.m3_merge.specs.Parts.{Each}
 use Rattle.m3_kernel.specs.Parts.{Site, Tile, Parcel}
 use Rattle.m3_machine.specs.declared.tally.Tally.{Tally}
 use Rattle.m3_machine.specs.Machine.{Machine}
-use Rattle.m3_machine.specs.At.{each, on_links, here, away, contexts_in, packets_in}
+use Rattle.m3_machine.specs.At.{at, places_of, each, on_links, here, away, contexts_in, packets_in}
 use Rattle.m3_machine.specs.Tally.{last_of, held, flying, queued}
 use Rattle.m3_machine.specs.Next.{tile_lines, next_take}
-use Rattle.m3_machine.specs.Whole.{Whole}
+use Rattle.m3_machine.specs.Kept.{IsKept}
+use Rattle.m3_machine.specs.Whole.{Whole, site, opened}
 
 -- ---- what is counted
 
@@ -55,6 +57,11 @@ module _ (held flying queued : ℕ → ℕ) where
   credit_lines_from g [] = []
   credit_lines_from g (x ∷ xs) = credit_line g x.fresh ++ credit_lines_from (g + 1) xs
 
+  -- of those of them that are live
+  abbrev pub live_lines_from : ℕ → List Grant → List AuditLine
+  live_lines_from g [] = []
+  live_lines_from g (x ∷ xs) = (if is_live x.standing then credit_line g x.fresh else []) ++ live_lines_from (g + 1) xs
+
 -- as a tally has them
 abbrev pub tally_line : Tally → ℕ → Fresh → List AuditLine
 tally_line t = credit_line (λ g. slice_index_or t.held.items g 0) (λ g. slice_index_or t.flying.items g 0) (λ g. slice_index_or t.queued.items g 0)
@@ -67,9 +74,21 @@ line_at t g None = []
 line_at t g (Some x) = tally_line t g x.fresh
 
 -- as these contexts and these packets have them
-abbrev pub credit_lines : List Context → List Packet → List Grant → List AuditLine
-credit_lines cs ps =
-    credit_lines_from (λ g. min most (held g cs ps)) (λ g. min most (flying g (λ a. last_of None a cs) ps)) (λ g. min most (queued g cs)) 1
+module _ (cs : List Context) (ps : List Packet) where
+  abbrev pub held_count : ℕ → ℕ
+  held_count g = min most (held g cs ps)
+
+  abbrev pub flying_count : ℕ → ℕ
+  flying_count g = min most (flying g (λ a. last_of None a cs) ps)
+
+  abbrev pub queued_count : ℕ → ℕ
+  queued_count g = min most (queued g cs)
+
+  abbrev pub credit_lines : List Grant → List AuditLine
+  credit_lines = credit_lines_from held_count flying_count queued_count 1
+
+  abbrev pub live_lines : List Grant → List AuditLine
+  live_lines = live_lines_from held_count flying_count queued_count 1
 
 -- ---- all lines
 
@@ -84,13 +103,26 @@ lines w =
     ++ (AuditLine.Flights (min most (flights w.machine)) ∷ [])
     ++ AuditLine.Quiet (is_none (next_take w.machine)) ∷ []
 
--- ---- what holds of the machines of today
+-- ---- the lines that the ideal state and the places have
 
 -- no activity has a program, and no Yield was taken
 pub record IsPlain (h : Site) (m : Machine) : Type 0 where
   pub programs : Each (λ x. x.has_program ≡ false) h.homes
   pub yielded : (t : ℕ) → slice_index_or m.kernel.yielded t false ≡ false
 
+-- a grant whose Close was sent is not live
+abbrev pub SentAreShut : List Grant → Type 0
+SentAreShut gs = Each (λ x. x.close_sent ≡ true → is_live x.standing ≡ false) gs
+
 -- the kernel has no context
 abbrev pub NobodyAway : Machine → Type 0
 NobodyAway m = each away m.kernel.seats ≡ []
+
+-- a kept machine whose kernel has no context, with so few flights that they are counted
+pub record IsCounted (w : Whole) : Type 0 where
+  pub kept : IsKept (site w.setup) w.machine
+  pub nobody : NobodyAway (opened w.setup)
+  pub flights_few : length (at w.machine).flights ≤ most
+
+abbrev pub ideal_lines : Whole → List AuditLine
+ideal_lines w = audit_lines w.setup.tiles (at w.machine) (places_of (site w.setup) w.machine) []

@@ -7,7 +7,7 @@ ghost use Rattle.m3_machine.specs.declared.machine.StepRefusal.{StepRefusal};
 ghost use Rattle.m3_link.specs.Links.{place, list_at, first, pushed, spare_at};
 ghost use Rattle.m3_kernel.specs.Naming.{is_home};
 ghost use Rattle.m3_machine.specs.Next.{next_take};
-ghost use Rattle.m3_machine.specs.Closing.{lines};
+ghost use Rattle.m3_machine.specs.Closing.{IsCounted, lines, ideal_lines};
 ghost use Rattle.m3_kernel.specs.Parcels.{parcels_of, out_of};
 ghost use Rattle.m3_machine.specs.Machine.{link_at};
 ghost use Rattle.m3_machine.specs.Whole.{site, entry, opened_whole, out_links, back_of, HasParcel, HasRoomFor, RoomToTake, IsOfSetup, IsServed, IsUnserved, Steps};
@@ -289,7 +289,9 @@ impl Machine {
     /// The closing lines: the credits of each send grant, the current activity of each tile from 2 on, the flights, and
     /// whether the driver has nothing more to do.
     pub fn audit(&self, alloc: Global) -> Result<Audit, AllocError>
-        ensures { IfOk result (λ a. a.lines.items ≡ lines self.now) }
+        ensures lines { IfOk result (λ a. a.lines.items ≡ lines self.now) }
+        ensures ideal { IsCounted self.now → IfOk result (λ a. a.lines.items ≡ ideal_lines self.now) }
+        ensures few { length self.now.entries ≤ 2097152 }
     {
         let mut lines = Vec::new(alloc);
         credit_lines(

@@ -1,18 +1,19 @@
-use Rattle.std.proofs.Common.{◌≡◌, ℕ, List, [], ◌∷◌, ◌++◌, min, is_none, ◌∙◌, ap}
+use Rattle.std.proofs.Common.{◌≡◌, ℕ, List, [], ◌∷◌, ◌++◌, min, is_none, ◌∙◌, ap, subst, refl}
 use Rattle.m3_base.specs.declared.journal.AuditLine.{AuditLine}
-use Rattle.m3_base.specs.Setup.{facts_of}
+use Rattle.m3_base.specs.Setup.{IsValid, facts_of}
 use Rattle.m3_endpoint.specs.Counts.{most}
 use Rattle.m3_kernel.specs.Parts.{Tile}
 use Rattle.m3_kernel.specs.Parcels.{parcels_of}
 use Rattle.m3_machine.specs.Next.{tile_lines, next_take}
 use Rattle.m3_machine.specs.Closing.{flights, credit_lines, contexts_on, packets_on}
-use Rattle.m3_machine.specs.Whole.{Whole}
+use Rattle.m3_machine.specs.Whole.{Whole, opened}
+use Rattle.m3_machine.proofs.AuditKept.{audit_is}
 use Rattle.m3_machine.proofs.Closing.{all_lines, is_none_from}
 use Rattle.m3_machine.proofs.Counting.{flights_are}
 use Rattle.m3_machine.proofs.machine.Machine.audit.Goals as goal
 
-pub returns : goal.returns
-returns c =
+pub returns-clause-lines : goal.returns-clause-lines
+returns-clause-lines c =
     let w = c.args.self.now in
     let inside = c.self.inside in
     let credits_of = λ (v : Whole). credit_lines (contexts_on v.machine.tiles v.machine.links) (packets_on v.machine.links) (facts_of v.setup).grants in
@@ -41,3 +42,9 @@ returns c =
     (c.in_ok-tile_lines.ensures ∙ ap (λ ls. c.credit_lines.new.lines.items ++ ls) tiled)
     (c.in_ok-push.ensures.items ∙ ap (λ (n : ℕ). c.tile_lines.new.lines.items ++ AuditLine.Flights n ∷ []) flown)
     (c.in_ok-push-2.ensures.items ∙ ap (λ b. c.push.new.self.items ++ AuditLine.Quiet b ∷ []) quiet)
+
+pub returns-clause-ideal : goal.returns-clause-ideal
+returns-clause-ideal c counted =
+    let valid = subst (λ (v : Whole). IsValid v.setup) c.self.view_is c.self.invariant.valid in
+    let kernel = subst (λ (v : Whole). v.machine.kernel ≡ (opened v.setup).kernel) c.self.view_is refl in
+    returns-clause-lines c ∙ audit_is c.args.self.now valid kernel counted
