@@ -14,3 +14,6 @@ pub use header::{decode_header, encode_header};
 pub use packet::decode_packet;
 pub use refusal::WireRefusal;
 pub use spelling::encode_packet;
+
+#[cfg(test)]
+mod tests;
