@@ -1,5 +1,5 @@
 -- What is written with each status, and when it comes.
-use Rattle.std.specs.Prelude.{◌≡◌, ℕ, List, [], ◌∷◌, ◌++◌, map, Option, Some, None, Ok, Err, codes}
+use Rattle.std.specs.Prelude.{◌≡◌, ◌⊎◌, ℕ, List, [], ◌∷◌, ◌++◌, map, Option, Some, None, Ok, Err, codes}
 use Rattle.std.specs.List.{All}
 use Rattle.m3_base.specs.declared.event.Event.{Event}
 use Rattle.m3_base.specs.declared.event.Entry.{Entry}
@@ -8,12 +8,13 @@ use Rattle.m3_base.specs.Setup.{SetupValue}
 use Rattle.m3_base.specs.Entries.{IsRun}
 use Rattle.m3_base.specs.Opening.{opening}
 use Rattle.m3_base.specs.Places.{Places, opening_places}
-use Rattle.m3_base.specs.Causes.{Appends}
+use Rattle.m3_base.specs.Causes.{Appends, AppendsSome, GivesMore}
 use Rattle.m3_machine.specs.Whole.{Whole, site, IsOfSetup as HasAct}
 use Rattle.m3_machine.specs.Kept.{IsWithin, PlacesRun, Ran}
 use Rattle.m3_script.specs.declared.script.Mode.{Mode}
-use Rattle.m3_script.specs.Scripts.{Refused, script_of}
+use Rattle.m3_script.specs.Scripts.{Refused, ScriptValue, script_of}
 use Rattle.m3_journal.specs.Texts.{journal_text}
+use Rattle.m3_cmd.specs.declared.words.Form.{Form}
 
 abbrev pub line_of : List ℕ → List ℕ
 line_of text = text ++ 10 ∷ []
@@ -90,3 +91,35 @@ pub record WritesJournal (bytes : List ℕ) (old new : Option (List ℕ)) : Type
 abbrev pub OfBytes : Option (List ℕ) → (List ℕ → Type 0) → Type 0
 OfBytes None P = Unit {0}
 OfBytes (Some bytes) P = P bytes
+
+-- the bytes are a script
+pub record IsScript (bytes : List ℕ) : Type 0 where
+  pub script : ScriptValue
+  pub spelled : script_of Mode.Run 0 bytes ≡ Ok script
+
+-- ---- what the sink has of it where it failed
+
+-- what a run answers to these bytes: the journal of the script, or that they are none
+abbrev pub IsAnswerTo : List ℕ → List ℕ → Type 0
+IsAnswerTo bytes text = IsJournalOf bytes text ⊎ (IsNoScript bytes × (text ≡ bad_script_line))
+
+-- what is to be written, by the form of the words: where the source's faults rose, where it gave more than the limit, and
+-- else by its bytes
+abbrev pub IsOutput : Option Form → Type 0 → Option (List ℕ) → Option (List ℕ) → List ℕ → Type 0
+IsOutput None rose old new text = text ≡ usage_line
+IsOutput (Some Form.Run) rose old new text =
+    (rose × (text ≡ read_fault_line))
+    ⊎ ((GivesMore old new most_bytes × (text ≡ too_long_line)) ⊎ OfBytes old (λ bytes. IsAnswerTo bytes text))
+
+-- a prefix of such a text is written
+pub record WritesSome (Is : List ℕ → Type 0) (old new : Option (List ℕ)) : Type 0 where
+  pub text : List ℕ
+  pub output : Is text
+  pub part : AppendsSome old new text
+
+-- ---- which statuses there are
+
+-- the status is one of these
+abbrev pub IsOneOf : List ℕ → ℕ → Type 0
+IsOneOf [] status = ⊥
+IsOneOf (s ∷ ss) status = (status ≡ s) ⊎ IsOneOf ss status

@@ -1,6 +1,6 @@
 //! A script is read, run, and its journal written.
 
-ghost use Rattle.std.specs.Prelude.{◌≡◌, ◌≢◌, ◌⊎◌, ◌≤◌, ◌++◌, List, map, length, OnOk, IfOk, IfSome, Some, None, Err, codes};
+ghost use Rattle.std.specs.Prelude.{◌≡◌, ◌≢◌, ◌⊎◌, ◌≤◌, ◌∷◌, [], length, OnOk, IfOk, Some, None};
 ghost use Rattle.m3_base.specs.Causes.{Rose, Appends, AppendsSome, GivesMore, GivesUpTo};
 ghost use Rattle.m3_machine.specs.Kept.{IsKept};
 ghost use Rattle.m3_machine.specs.Whole.{site};
@@ -9,7 +9,7 @@ ghost use Rattle.m3_script.specs.declared.script.Mode.{Mode};
 ghost use Rattle.m3_script.specs.Scripts.{script_of};
 ghost use Rattle.m3_cmd.specs.declared.words.Form.{Form};
 ghost use Rattle.m3_cmd.specs.Words.{form_of, words_of};
-ghost use Rattle.m3_cmd.specs.Statuses.{usage_line, read_fault_line, too_long_line, bad_script_line, most_bytes, event_of, AreOfSetup, Follows, IsTextAt, IsTextOf, IsNoScript, WritesJournal, OfBytes};
+ghost use Rattle.m3_cmd.specs.Statuses.{usage_line, read_fault_line, too_long_line, bad_script_line, most_bytes, event_of, AreOfSetup, Follows, IsTextAt, IsTextOf, IsNoScript, WritesJournal, WritesSome, IsScript, IsAnswerTo, IsOutput, IsOneOf, OfBytes};
 
 use crate::words::{Form, read_form};
 use m3_base::event::Event;
@@ -73,7 +73,10 @@ fn run_script<K: Sink>(alloc: Global, bytes: &[u8], sink: &mut K) -> u8
     ensures journal { result ≡ 0 → WritesJournal bytes.now (K.written sink.old) (K.written sink.new) }
     ensures script { result ≡ 2 → IsNoScript bytes.now × Appends (K.written sink.old) (K.written sink.new) bad_script_line }
     ensures write { result ≡ 4 → Rose (K.faults sink.old) (K.faults sink.new) }
-    ensures statuses { (result ≢ 1) × (result ≢ 3) × (result ≢ 8) }
+    ensures prefix { result ≡ 4 → WritesSome (IsAnswerTo bytes.now) (K.written sink.old) (K.written sink.new) }
+    ensures valid { IsScript bytes.now → IsOneOf (0 ∷ 4 ∷ 5 ∷ []) result }
+    ensures invalid { IsNoScript bytes.now → IsOneOf (2 ∷ 4 ∷ 5 ∷ []) result }
+    ensures statuses { IsOneOf (0 ∷ 2 ∷ 4 ∷ 5 ∷ []) result }
 {
     match parse(alloc, bytes, Mode::Run, 0) {
         Err(ScriptRefusal::NoMemory) => 5,
@@ -106,8 +109,12 @@ pub fn run_words<S: Source, K: Sink>(
     ensures script { result ≡ 2 → OfBytes (S.left source.old) IsNoScript × Appends (K.written sink.old) (K.written sink.new) bad_script_line }
     ensures read { result ≡ 3 → Rose (S.faults source.old) (S.faults source.new) × Appends (K.written sink.old) (K.written sink.new) read_fault_line }
     ensures write { result ≡ 4 → Rose (K.faults sink.old) (K.faults sink.new) }
+    ensures prefix { result ≡ 4 → WritesSome (IsOutput (form_of (words_of words.now)) (Rose (S.faults source.old) (S.faults source.new)) (S.left source.old) (S.left source.new)) (K.written sink.old) (K.written sink.new) }
     ensures long { result ≡ 8 → GivesMore (S.left source.old) (S.left source.new) most_bytes × Appends (K.written sink.old) (K.written sink.new) too_long_line }
     ensures within { form_of (words_of words.now) ≡ Some Form.Run → result ≢ 4 → result ≢ 8 → GivesUpTo (S.left source.old) (S.left source.new) most_bytes }
+    ensures complete { form_of (words_of words.now) ≡ Some Form.Run → OfBytes (S.left source.old) (λ bytes. IsScript bytes → length bytes ≤ most_bytes → IsOneOf (0 ∷ 3 ∷ 4 ∷ 5 ∷ []) result) }
+    ensures refused { form_of (words_of words.now) ≡ Some Form.Run → OfBytes (S.left source.old) (λ bytes. IsNoScript bytes → length bytes ≤ most_bytes → IsOneOf (2 ∷ 3 ∷ 4 ∷ 5 ∷ []) result) }
+    ensures statuses { IsOneOf (0 ∷ 1 ∷ 2 ∷ 3 ∷ 4 ∷ 5 ∷ 8 ∷ []) result }
 {
     match read_form(words) {
         None => finish(sink, USAGE, 1),

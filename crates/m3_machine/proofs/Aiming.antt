@@ -9,7 +9,7 @@ use Rattle.m3_base.specs.Context.{Fetched, ReceiveRecord, Endpoint, Free, Sends,
 use Rattle.m3_base.specs.Receive.{fetched_at, unmarked}
 use Rattle.m3_base.specs.Issue.{Issued, first_of, issue, unless, unless_busy, is_busy, send, send_refusal, reply, reply_refusal, reply_to, fetch, fetch_from, acknowledge, acknowledge_at, acknowledged, may_read, may_write, access_refusal, read, write}
 use Rattle.m3_base.specs.Places.{target}
-use Rattle.m3_machine.specs.Parts.{Site, tile_of, tile_for}
+use Rattle.m3_kernel.specs.Parts.{Site, tile_of, tile_for}
 use Rattle.m3_machine.specs.Aims.{tile_of_sender, aim_of_send, aim_of_answer, aim_of}
 
 -- where a new packet goes is this tile

@@ -14,8 +14,8 @@ use Rattle.m3_base.specs.Opening.{installed, granted, with_line}
 use Rattle.m3_base.specs.Obeys.{Declared, Obeys}
 use Rattle.m3_merge.specs.Parts.{Each}
 use Rattle.m3_merge.proofs.Merged.{each_append}
-use Rattle.m3_machine.specs.Parts.{Home, Site}
-use Rattle.m3_machine.specs.Naming.{is_home, names_at, is_named_context}
+use Rattle.m3_kernel.specs.Parts.{Home, Site}
+use Rattle.m3_kernel.specs.Naming.{is_home, names_at, is_named_context}
 use Rattle.m3_machine.specs.Machine.{context_or_new}
 use Rattle.m3_machine.specs.At.{by_act}
 use Rattle.m3_machine.specs.Sound.{ActsApart, HomesApart, IsThere}

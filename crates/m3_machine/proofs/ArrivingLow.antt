@@ -10,7 +10,7 @@ use Rattle.m3_base.specs.declared.ids.FlightId.{FlightId}
 use Rattle.m3_base.specs.Context.{Kind, Sending, Replying, Reading, Writing, Flying, Endpoint, Free, Sends, Receives, Reaches, Context, endpoint, with_endpoint, opened}
 use Rattle.m3_base.specs.Land.{sends_by, more_at, credited, with_credit, land_by, land_refusal, joined, taken, has_live, closed_at, flies_at, flying_at, settled, answered, frees}
 use Rattle.m3_base.specs.Arrive.{Arrived, arrive, answer_arrives, close_arrives, freed_context}
-use Rattle.m3_machine.specs.Naming.{next_token_at}
+use Rattle.m3_kernel.specs.Naming.{next_token_at}
 use Rattle.m3_machine.specs.Low.{HasLow}
 use Rattle.m3_machine.proofs.Numbers.{token_set}
 

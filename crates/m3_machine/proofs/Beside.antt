@@ -11,9 +11,9 @@ use Rattle.m3_base.specs.State.{same_act}
 use Rattle.m3_base.specs.Flight.{name_of}
 use Rattle.m3_base.specs.Places as places
 use Rattle.m3_base.specs.Places.{Actor, actor_act, same_actor}
-use Rattle.m3_machine.specs.Parts.{Home, Site, home_act, home_of, tile_of, tile_in, Seating, Is_placed, Is_leaving, Is_resting, Is_coming, Seat, Kernel}
+use Rattle.m3_kernel.specs.Parts.{Home, Site, home_act, home_of, tile_of, tile_in, Seating, Is_placed, Is_leaving, Is_resting, Is_coming, Seat, Kernel}
 use Rattle.m3_machine.specs.Tile.{stay_of}
-use Rattle.m3_machine.specs.Kernel.{seat_act, seat_of, placed_at, is_placed_seat, is_leaving_seat, is_coming_seat, is_leaving_at, is_moving_at, is_due_seat, first_due}
+use Rattle.m3_kernel.specs.Kernel.{seat_act, seat_of, placed_at, is_placed_seat, is_leaving_seat, is_coming_seat, is_leaving_at, is_moving_at, is_due_seat, first_due}
 use Rattle.m3_machine.specs.Machine.{Machine, tile_at}
 use Rattle.m3_machine.specs.At.{actor_in, actor_by, standing}
 use Rattle.m3_machine.specs.Sound.{HomesApart, is_placed_at}

@@ -11,9 +11,9 @@ use Rattle.m3_base.specs.Places as places
 use Rattle.m3_base.specs.Places.{Places, pstep, target, target_of, is_here}
 use Rattle.m3_base.proofs.Sorting.{find-new}
 use Rattle.m3_base.proofs.Names.{flight-new}
-use Rattle.m3_machine.specs.Parts.{Site, Parcel, Data, says}
+use Rattle.m3_kernel.specs.Parts.{Site, Parcel, Data, says}
 use Rattle.m3_machine.specs.Tile.{stay_of, tile_take, take_here}
-use Rattle.m3_machine.specs.Kernel.{seat_of}
+use Rattle.m3_kernel.specs.Kernel.{seat_of}
 use Rattle.m3_machine.specs.Machine.{Machine, Is_kernel, Is_memory, Is_tile, empty_tile, tile_at, link_at, with_link, with_part, pushed_all, mstep, done_by, part_step, part_at, front, rest, of_tile}
 use Rattle.m3_machine.specs.At.{each, on_links, held_by, packets_in, all_packets, by_name, at, token, actor_by, current_act, places_of}
 use Rattle.m3_machine.specs.Sound.{NamesApart}

@@ -7,7 +7,7 @@ use Rattle.m3_base.specs.State.{context_of, new_context_in, put_context}
 use Rattle.m3_merge.specs.Parts.{Each}
 use Rattle.m3_merge.proofs.Merged.{each_append}
 use Rattle.m3_merge.proofs.Stamps.{each_front, each_back}
-use Rattle.m3_machine.specs.Parts.{Home, Stay, Seat}
+use Rattle.m3_kernel.specs.Parts.{Home, Stay, Seat}
 use Rattle.m3_machine.specs.At.{by_act, actor_by}
 use Rattle.m3_machine.specs.Sound.{ActsApart, IsThere, EndedAs}
 use Rattle.m3_machine.proofs.Moved.{by_act-inserts}

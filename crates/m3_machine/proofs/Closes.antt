@@ -18,9 +18,9 @@ use Rattle.m3_base.specs.Places.{pstep, target, target_of, least_closing, said_o
 use Rattle.m3_base.proofs.Sorting.{find-new}
 use Rattle.m3_merge.specs.Parts.{Each}
 use Rattle.m3_merge.proofs.Merged.{each_map}
-use Rattle.m3_machine.specs.Parts.{Site}
-use Rattle.m3_machine.specs.Naming.{is_home, is_named}
-use Rattle.m3_machine.specs.Kernel.{is_under_close, route, Routed, sends_own, kernel_id, close_of, close_least}
+use Rattle.m3_kernel.specs.Parts.{Site}
+use Rattle.m3_kernel.specs.Naming.{is_home, is_named}
+use Rattle.m3_kernel.specs.Kernel.{is_under_close, route, Routed, sends_own, kernel_id, close_of, close_least}
 use Rattle.m3_machine.specs.Machine.{Machine, link_at, mstep, done_by, of_kernel}
 use Rattle.m3_machine.specs.At.{all_packets, all_closed, is_in, closed_if, closed_from, at, places_of}
 use Rattle.m3_machine.specs.Sound.{IsShut, ParcelOk, Hypotheses, IsSound}

@@ -3,7 +3,7 @@ use Rattle.std.proofs.Common.{◌≡◌, ℕ, suc, ◌+◌, ◌-◌, ◌<◌, Li
 use Rattle.std.proofs.lemmas.Bool.{false≢true}
 use Rattle.std.proofs.lemmas.List.{get_or-map}
 use Rattle.m3_base.specs.declared.journal.AuditLine.{AuditLine}
-use Rattle.m3_machine.specs.Parts.{Tile}
+use Rattle.m3_kernel.specs.Parts.{Tile}
 use Rattle.m3_machine.specs.Tile.{act_in}
 use Rattle.m3_machine.specs.At.{current_act}
 use Rattle.m3_machine.specs.Next.{tile_lines_from}

@@ -17,17 +17,17 @@ use Rattle.m3_base.specs.Issue.{Issued, issue}
 use Rattle.m3_base.specs.Places.{target}
 use Rattle.m3_core.specs.declared.parcel.Emit.{Emit}
 use Rattle.m3_core.specs.declared.parcel.Parcel.{Parcel as CodeParcel}
-use Rattle.m3_machine.specs.Parts.{Site, Parcel, Data, Tile, is_idle, tile_of, tile_for}
+use Rattle.m3_kernel.specs.Parts.{Site, Parcel, Data, Tile, is_idle, tile_of, tile_for}
 use Rattle.m3_machine.specs.Tile.{tile_do, do_at, do_issued, new_out}
 use Rattle.m3_machine.specs.Links.{place, pushed, HasRoom}
-use Rattle.m3_machine.specs.Parcels.{parcel_of, parcels_of, out_of}
+use Rattle.m3_kernel.specs.Parcels.{parcel_of, parcels_of, out_of}
 use Rattle.m3_machine.specs.Aims.{aim_of}
 use Rattle.m3_machine.specs.TileView.{aim_at}
 use Rattle.m3_machine.specs.Low.{HasLow, LowIn, AreLow}
 use Rattle.m3_base.specs.declared.event.Entry.{Entry}
 use Rattle.m3_base.specs.Setup.{SetupValue, IsValid}
-use Rattle.m3_machine.specs.Parts.{Home, home_of, tile_in}
-use Rattle.m3_machine.specs.Homes.{home_tile}
+use Rattle.m3_kernel.specs.Parts.{Home, home_of, tile_in}
+use Rattle.m3_kernel.specs.Homes.{home_tile}
 use Rattle.m3_machine.specs.Whole.{Whole, site, machine_of, entry, out_links, HasRoomFor, Steps}
 use Rattle.m3_machine.proofs.Valid.{home_high}
 use Rattle.m3_machine.specs.Machine as plain

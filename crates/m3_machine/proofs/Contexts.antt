@@ -21,7 +21,7 @@ use Rattle.m3_base.proofs.SetupRules.{grant_allowed}
 use Rattle.m3_base.proofs.Obeying.{Ties, obeys, ties, tied_at_first}
 use Rattle.m3_machine.specs.Table.{HasContexts}
 use Rattle.m3_machine.specs.Low.{HasLow}
-use Rattle.m3_machine.specs.Naming.{next_token_at}
+use Rattle.m3_kernel.specs.Naming.{next_token_at}
 use Rattle.m3_machine.proofs.Numbers.{token_set}
 use Rattle.m3_machine.specs.Progress.{AreFree, AreForms, Progress, CanInstall}
 use Rattle.m3_machine.proofs.Table.{has_new, has_put, found_new, found_beside, found_put, found_kept}

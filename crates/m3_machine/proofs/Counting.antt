@@ -7,7 +7,7 @@ use Rattle.std.specs.declared.alloc.Global.{Global}
 use Rattle.m3_base.specs.declared.packet.Packet.{Packet}
 use Rattle.m3_core.specs.declared.parcel.Parcel.{Parcel as CodeParcel}
 use Rattle.m3_machine.specs.Links.{lists_in}
-use Rattle.m3_machine.specs.Parcels.{parcel_of, parcels_of}
+use Rattle.m3_kernel.specs.Parcels.{parcel_of, parcels_of}
 use Rattle.m3_machine.specs.At.{each, on_links, packets_in}
 use Rattle.m3_machine.specs.Next.{data_in, data_on}
 

@@ -3,12 +3,12 @@ use Rattle.std.proofs.Common.{◌≡◌, ℕ, true, false, List, [], ◌∷◌, 
 use Rattle.std.specs.Prelude.{is_some, is_none}
 use Rattle.m3_base.specs.declared.setup_line.SetupLine.{SetupLine}
 use Rattle.m3_base.specs.Setup.{Facts, SetupValue, IsValid, AllKept, no_lines, noted, all_noted, facts_of, home_in}
-use Rattle.m3_machine.specs.Parts.{Home, Site, home_of}
-use Rattle.m3_machine.specs.Homes.{home_tile, AreTiles}
-use Rattle.m3_machine.specs.Machine.{with_home, with_homes}
-use Rattle.m3_machine.specs.Naming.{is_home}
+use Rattle.m3_kernel.specs.Parts.{Home, Site, home_of}
+use Rattle.m3_kernel.specs.Homes.{home_tile, AreTiles}
+use Rattle.m3_kernel.specs.Sites.{with_home, with_homes}
+use Rattle.m3_kernel.specs.Naming.{is_home}
 use Rattle.m3_machine.specs.Whole.{site}
-use Rattle.m3_machine.proofs.Homes.{tiles_with, is_none_of, none_declared}
+use Rattle.m3_kernel.proofs.Homes.{tiles_with, is_none_of, none_declared}
 use Rattle.m3_machine.proofs.Contexts.{first_free}
 
 pub site_tiles : (ls : List SetupLine) (f : Facts) (h : Site) → AllKept ls f → AreTiles h.homes f.homes → AreTiles (with_homes [] h ls).homes (all_noted ls f).homes

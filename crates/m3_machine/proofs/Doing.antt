@@ -20,8 +20,8 @@ use Rattle.m3_base.specs.Entries.{shown_told}
 use Rattle.m3_base.specs.Places as places
 use Rattle.m3_base.specs.Places.{Places, pstep, target, is_some_of, is_current, next_id_of, push_new, command_by, busy_with, said_or_nothing}
 use Rattle.m3_base.proofs.Sorting.{find-new}
-use Rattle.m3_machine.specs.Parts.{Site, tile_of, tile_for, Data, Tile, is_idle}
-use Rattle.m3_machine.specs.Naming.{is_home, is_named, is_named_context}
+use Rattle.m3_kernel.specs.Parts.{Site, tile_of, tile_for, Data, Tile, is_idle}
+use Rattle.m3_kernel.specs.Naming.{is_home, is_named, is_named_context}
 use Rattle.m3_machine.specs.Tile.{act_in, stay_of, with_current, do_at, do_issued, new_out}
 use Rattle.m3_machine.specs.Machine.{Machine, Is_kernel, Is_memory, Is_tile, empty_tile, tile_at, with_part, pushed_all, mstep, done_by, of_tile, part_step}
 use Rattle.m3_machine.specs.At.{all_packets, by_name, at, current_act, places_of}

@@ -16,9 +16,9 @@ use Rattle.m3_base.specs.Places.{pstep, said_or_nothing}
 use Rattle.m3_merge.specs.Parts.{Each}
 use Rattle.m3_merge.proofs.Merged.{each_map}
 use Rattle.m3_machine.proofs.Reseats.{parcel_kernel}
-use Rattle.m3_machine.specs.Parts.{Site, Parcel, Closed, dropped}
-use Rattle.m3_machine.specs.Naming.{is_home, is_named_context}
-use Rattle.m3_machine.specs.Kernel.{is_under_close, done_grant, take_closed}
+use Rattle.m3_kernel.specs.Parts.{Site, Parcel, Closed, dropped}
+use Rattle.m3_kernel.specs.Naming.{is_home, is_named_context}
+use Rattle.m3_kernel.specs.Kernel.{is_under_close, done_grant, take_closed}
 use Rattle.m3_machine.specs.Machine.{Machine, tile_at, link_at, with_link, mstep, done_by, of_kernel}
 use Rattle.m3_machine.specs.At.{each, here, away, held_by, contexts_in, packets_in, closed_in, all_contexts, all_packets, all_closed, is_in, by_act, by_name, closed_if, closed_from, at, token, current_act, places_of}
 use Rattle.m3_machine.specs.Sound.{ActsApart, NamesApart, ClosedApart, IsThere, IsShut, ParcelOk, Walks, placed_on, leavings, IsSound}

@@ -9,9 +9,9 @@ use Rattle.m3_base.specs.State.{Grant, grant_in, same_act}
 use Rattle.m3_base.specs.Steps.{with_packet}
 use Rattle.m3_base.specs.Places as places
 use Rattle.m3_base.specs.Places.{Places, Actor, target, home_in, actor_act, same_actor, push_answer, push_closed}
-use Rattle.m3_machine.specs.Parts.{Home, Site, home_act, home_of, tile_in, tile_of, tile_for, Parcel, Data, Closed, data_out, closed_out, answer_tile}
-use Rattle.m3_machine.specs.Naming.{is_home, is_named}
-use Rattle.m3_machine.specs.Kernel.{is_under_close}
+use Rattle.m3_kernel.specs.Parts.{Home, Site, home_act, home_of, tile_in, tile_of, tile_for, Parcel, Data, Closed, data_out, closed_out, answer_tile}
+use Rattle.m3_kernel.specs.Naming.{is_home, is_named}
+use Rattle.m3_kernel.specs.Kernel.{is_under_close}
 use Rattle.m3_machine.specs.Machine.{Machine, pushed, pushed_all}
 use Rattle.m3_machine.specs.At.{all_packets, all_closed, at, actor_in, places_of}
 use Rattle.m3_machine.specs.Sound.{IsSetup, GoesTo, IsShut, is_open, IsSound}

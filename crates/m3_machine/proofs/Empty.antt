@@ -8,7 +8,7 @@ use Rattle.m3_base.specs.declared.event.Said.{Said}
 use Rattle.m3_base.specs.declared.event.IdleWhy.{IdleWhy}
 use Rattle.m3_base.specs.Places as places
 use Rattle.m3_base.specs.Places.{pstep}
-use Rattle.m3_machine.specs.Parts.{Site, is_idle}
+use Rattle.m3_kernel.specs.Parts.{Site, is_idle}
 use Rattle.m3_machine.specs.Machine.{Machine, Part, Is_kernel, Is_memory, Is_tile, empty_tile, tile_at, link_at, with_link, with_part, part_at, part_step, mstep, done_by, front, rest, Did}
 use Rattle.m3_machine.specs.At.{at, token, places_of}
 use Rattle.m3_machine.specs.Sound.{IsSound}

@@ -9,7 +9,7 @@ use Rattle.m3_base.specs.Setup.{SetupValue}
 use Rattle.m3_base.specs.State.{State, context_of}
 use Rattle.m3_base.specs.Legal.{flights_lines}
 use Rattle.m3_core.specs.declared.parcel.Parcel.{Parcel as CodeParcel}
-use Rattle.m3_machine.specs.Parts.{Home, Site, Tile, Seating, Seat}
+use Rattle.m3_kernel.specs.Parts.{Home, Site, Tile, Seating, Seat}
 use Rattle.m3_machine.specs.Machine.{Machine, with_seats, seated_all, seated_at_opening, opened_seating, context_or_new, tile_at, empty_tiles}
 use Rattle.m3_machine.specs.At.{at, each, held_by, by_name, all_packets, on_links, packets_in}
 use Rattle.m3_machine.specs.Whole.{machine_of, site}

@@ -23,8 +23,8 @@ use Rattle.m3_base.specs.Land.{land, has_send, has_live, closed_at, flies_at, fl
 use Rattle.m3_base.specs.Places.{target, is_here}
 use Rattle.m3_base.specs.Receive.{fetched_at, unmarked}
 use Rattle.m3_machine.specs.Machine.{Machine, Did, Part, Is_kernel, Is_memory, Is_tile, tile_at, link_at, mstep, part_at, part_step, tile_for_event, took, popped, front, done_by}
-use Rattle.m3_machine.specs.Naming.{is_named}
-use Rattle.m3_machine.specs.Parts.{tile_of, Site, Tile, Deed, says, is_idle, Parcel, Data, Save, Saved, Restore, Yield, Closed}
+use Rattle.m3_kernel.specs.Naming.{is_named}
+use Rattle.m3_kernel.specs.Parts.{tile_of, Site, Tile, Deed, says, is_idle, Parcel, Data, Save, Saved, Restore, Yield, Closed}
 use Rattle.m3_machine.specs.Tile.{act_in, do_issued, do_at, take_arrived, take_here, take_data, arrive_named}
 use Rattle.m3_machine.specs.Whole.{IsServed, ServesLink}
 

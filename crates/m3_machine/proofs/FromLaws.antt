@@ -12,9 +12,9 @@ use Rattle.m3_laws.specs.Held as laws_held
 use Rattle.m3_laws.specs.Invariant.{Invariant}
 use Rattle.m3_laws.specs.Quiet.{Quiet}
 use Rattle.m3_laws.proofs.Fitting.{InstallLanded, fits_at, held_there, close_held, closing_was_sent, close_was_sent, read_inside, write_inside, next_free, kernel_free}
-use Rattle.m3_machine.specs.Parts.{Site, Parcel, Data, Seat, Away, Tile, Is_resting, Is_coming}
-use Rattle.m3_machine.specs.Kernel.{seat_of}
-use Rattle.m3_machine.specs.Naming.{is_named_context}
+use Rattle.m3_kernel.specs.Parts.{Site, Parcel, Data, Seat, Away, Tile, Is_resting, Is_coming}
+use Rattle.m3_kernel.specs.Kernel.{seat_of}
+use Rattle.m3_kernel.specs.Naming.{is_named_context}
 use Rattle.m3_machine.specs.Machine.{Machine, empty_tile, tile_at, link_at}
 use Rattle.m3_machine.specs.At.{at}
 use Rattle.m3_machine.specs.Sound.{is_open, HeldThere, Hypotheses, IsSound, SeatOk, HeldOk}

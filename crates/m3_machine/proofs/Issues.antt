@@ -10,8 +10,8 @@ use Rattle.m3_base.specs.Flight.{name_of}
 use Rattle.m3_base.specs.Context.{Sending, Reading, Writing, Fetched, ReceiveRecord, Endpoint, Free, Sends, Receives, Reaches, Context, endpoint, with_endpoint}
 use Rattle.m3_base.specs.Receive.{with_fetched, fetched_at, unmarked, without_token, with_mark, freed, marking}
 use Rattle.m3_base.specs.Issue.{Flies, Issued, first_of, unless, next_id, launched, send_packet, send_refusal, less_one, send, reply_refusal, reply_to, reply, fetch_from, fetch, acknowledged, acknowledge_at, acknowledge, access, access_refusal, read, write, may_read, may_write, is_busy, flies_always, issue}
-use Rattle.m3_machine.specs.Parts.{Site}
-use Rattle.m3_machine.specs.Naming.{is_home, is_named, is_from_home, is_fetched_from_home, names_at, is_named_context}
+use Rattle.m3_kernel.specs.Parts.{Site}
+use Rattle.m3_kernel.specs.Naming.{is_home, is_named, is_from_home, is_fetched_from_home, names_at, is_named_context}
 use Rattle.m3_machine.proofs.Named.{all_get, all_set, fetched_more, fetched_less, fetched_marked}
 
 -- a new packet has the next name, and goes to the memory or to an activity

@@ -19,7 +19,7 @@ use Rattle.m3_base.specs.declared.packet.Packet.{Packet}
 use Rattle.m3_base.specs.Context.{Context}
 use Rattle.m3_base.specs.Entries.{SaysBy, steps_of, ran_to}
 use Rattle.m3_base.specs.Places.{target, is_here, pstep}
-use Rattle.m3_machine.specs.Parts.{tile_of, Site, Tile, Deed, says, is_idle, Parcel, Data, Save, Saved, Restore, Yield, Closed}
+use Rattle.m3_kernel.specs.Parts.{tile_of, Site, Tile, Deed, says, is_idle, Parcel, Data, Save, Saved, Restore, Yield, Closed}
 use Rattle.m3_machine.specs.Tile.{act_in, do_issued, do_at, take_arrived, take_here, take_data, arrive_named}
 use Rattle.m3_machine.specs.Machine.{Machine, Did, Part, Is_kernel, Is_memory, Is_tile, tile_at, link_at, mstep, part_at, part_step, tile_for_event, took, popped, front, done_by}
 use Rattle.m3_machine.specs.At.{at, places_of}
@@ -28,6 +28,8 @@ use Rattle.m3_machine.specs.Refines.{as_places, Refined}
 use Rattle.m3_machine.specs.Whole.{IsOfSetup, IsServed, ServesLink}
 use Rattle.m3_machine.specs.Kept.{IsKept, IsWithin, Means}
 use Rattle.m3_machine.proofs.Forms.{form_of}
+use Rattle.m3_machine.proofs.Tame.{IsNoTurn, OrdersTile}
+use Rattle.m3_machine.proofs.Moves.{step_moves}
 use Rattle.m3_machine.proofs.Doing.{do_refines}
 use Rattle.m3_machine.proofs.Empty.{empty_refines}
 use Rattle.m3_machine.proofs.Landed.{take_here_refines}
@@ -154,6 +156,24 @@ quiet m Event.Close s = absurd s
 quiet m (Event.Order o) s = absurd s
 quiet m (Event.File l) s = tt
 
+unmade : (m : Machine) (e : Event) → IsServed m e → IsNoTurn e
+unmade m (Event.Do a x) s = tt
+unmade m (Event.Take to from) s = tt
+unmade m (Event.Turn a) s = absurd s
+unmade m (Event.Tend a) s = tt
+unmade m Event.Close s = tt
+unmade m (Event.Order o) s = tt
+unmade m (Event.File l) s = tt
+
+orders : (m : Machine) (e : Event) → IsServed m e → OrdersTile e
+orders m (Event.Do a x) s = tt
+orders m (Event.Take to from) s = tt
+orders m (Event.Turn a) s = tt
+orders m (Event.Tend a) s = tt
+orders m Event.Close s = tt
+orders m (Event.Order o) s = absurd s
+orders m (Event.File l) s = tt
+
 no_turn : (m : Machine) (e : Event) → IsServed m e → HasContext (at m) e
 no_turn m (Event.Do a x) s = tt
 no_turn m (Event.Take to from) s = tt
@@ -191,5 +211,6 @@ module _ (h : Site) (m : Machine) (e : Event) (o : Outcome) (next : Machine) (st
     says = subst (λ (z : Option Made). SaysBy (steps_of e (record { made = z; said = o.said; restore = o.restore })) (at m) o.said) (sym plain) (laws.says h m e None did (no_turn m e served) refined).0;
     reaches = subst (λ (z : Option Made). ran_to (irun (steps_of e (record { made = z; said = o.said; restore = o.restore })) (at m)) (at m) ≡ at next) (sym plain) (laws.says h m e None did (no_turn m e served) refined).1;
     placed = record { form = form_of h m e o next step served; moves = moves_as e refl served };
+    moves = step_moves h m e kept.sound within (unmade m e served) (orders m e served) did step;
     kept = record { sound = refined.1; law = quiet_kept h m e None did (no_turn m e served) refined (quiet m e served) kept.law };
   }

@@ -16,8 +16,8 @@ use Rattle.m3_base.specs.Arrive.{Arrived, arrive}
 use Rattle.m3_base.specs.Fits.{fits}
 use Rattle.m3_base.specs.Places as places
 use Rattle.m3_base.specs.Places.{Places, pstep, target, target_of, is_here, came, push_answer, push_closed}
-use Rattle.m3_machine.specs.Parts.{Site, heard_of, Parcel, Data, Tile, data_out, closed_out, answer_tile, says}
-use Rattle.m3_machine.specs.Naming.{is_named, is_named_context}
+use Rattle.m3_kernel.specs.Parts.{Site, heard_of, Parcel, Data, Tile, data_out, closed_out, answer_tile, says}
+use Rattle.m3_kernel.specs.Naming.{is_named, is_named_context}
 use Rattle.m3_machine.specs.Tile.{stay_of, with_current, heard_by, take_arrived, take_here, act_in}
 use Rattle.m3_machine.specs.Machine.{Machine, Is_tile, empty_tile, tile_at, link_at, with_link, with_part, pushed_all, mstep, done_by, of_tile}
 use Rattle.m3_machine.specs.At.{at, token, current_act, places_of}

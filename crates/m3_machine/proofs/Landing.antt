@@ -14,7 +14,7 @@ use Rattle.m3_base.specs.Fits.{fits, fits_answer}
 use Rattle.m3_base.proofs.Keyed.{find-replaced_other, find-replaced_same}
 use Rattle.m3_merge.specs.Parts.{Each}
 use Rattle.m3_merge.proofs.Stamps.{each_back}
-use Rattle.m3_machine.specs.Parts.{Site, Heard, Stay, Tile}
+use Rattle.m3_kernel.specs.Parts.{Site, Heard, Stay, Tile}
 use Rattle.m3_machine.specs.Tile.{stay_act, stay_of, with_stay, hearing, heard_by}
 use Rattle.m3_machine.specs.Machine.{Machine, empty_tile, tile_at}
 use Rattle.m3_machine.specs.At.{each, on_links, as_list, here, away, contexts_in, all_contexts, at}

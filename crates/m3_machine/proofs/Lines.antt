@@ -10,8 +10,8 @@ use Rattle.m3_base.specs.Context.{Context}
 use Rattle.m3_base.specs.State.{Grant, context_of, new_context_in, same_act, holder, parent_in}
 use Rattle.m3_base.specs.Grants.{form, send_form, part_form}
 use Rattle.m3_merge.specs.Parts.{Each}
-use Rattle.m3_machine.specs.Parts.{Home, Site, home_act}
-use Rattle.m3_machine.specs.Naming.{is_home, acts_in_form}
+use Rattle.m3_kernel.specs.Parts.{Home, Site, home_act}
+use Rattle.m3_kernel.specs.Naming.{is_home, acts_in_form}
 use Rattle.m3_machine.specs.Machine.{context_or_new}
 use Rattle.m3_machine.specs.At.{by_act}
 use Rattle.m3_machine.specs.Sound.{HomesApart, IsThere}

@@ -8,7 +8,7 @@ use Rattle.m3_base.specs.State.{context_of}
 use Rattle.m3_merge.specs.Parts.{Each}
 use Rattle.m3_merge.proofs.Merged.{each_append}
 use Rattle.m3_merge.proofs.Stamps.{each_front, each_back}
-use Rattle.m3_machine.specs.Parts.{Parcel, Data, Save, Saved, Restore, Yield, Closed}
+use Rattle.m3_kernel.specs.Parts.{Parcel, Data, Save, Saved, Restore, Yield, Closed}
 use Rattle.m3_machine.specs.Sound.{ActsApart, IsThere, Orderly, no_yield, of_act, leavings}
 use Rattle.m3_machine.proofs.Inserts.{Inserts}
 use Rattle.m3_machine.proofs.Moved.{length-set}

@@ -9,7 +9,7 @@ use Rattle.m3_base.specs.Context.{Context}
 use Rattle.m3_base.specs.State.{context_of, new_context_in}
 use Rattle.m3_base.proofs.Names.{same_name-turned}
 use Rattle.m3_base.proofs.Sorting.{new-new}
-use Rattle.m3_machine.specs.Parts.{Parcel}
+use Rattle.m3_kernel.specs.Parts.{Parcel}
 use Rattle.m3_machine.specs.At.{on_links, by_act, by_name}
 use Rattle.m3_machine.proofs.Inserts.{Inserts, pop_none, pop_one, push_none, push_one}
 

@@ -12,8 +12,8 @@ use Rattle.m3_base.specs.Context.{Kind, Flying, Fetched, Endpoint, Free, Sends, 
 use Rattle.m3_base.specs.Receive.{without_token, with_mark}
 use Rattle.m3_base.specs.Land.{land_by, land_refusal, joined, credited, with_credit, taken, closed_at, settled, answered, has_live, flies_at, flying_at, frees}
 use Rattle.m3_base.specs.Arrive.{Arrived, arrive, close_arrives, answer_arrives, settles}
-use Rattle.m3_machine.specs.Parts.{Site}
-use Rattle.m3_machine.specs.Naming.{is_home, is_named, acts_in_form, is_from_home, is_fetched_from_home, names_at, is_named_context}
+use Rattle.m3_kernel.specs.Parts.{Site}
+use Rattle.m3_kernel.specs.Naming.{is_home, is_named, acts_in_form, is_from_home, is_fetched_from_home, names_at, is_named_context}
 
 -- ---- lists of endpoints
 

@@ -7,7 +7,7 @@ use Rattle.m3_base.specs.declared.journal.AuditLine.{AuditLine}
 use Rattle.m3_base.specs.Audit as audit
 use Rattle.m3_base.specs.Driver as driver
 use Rattle.m3_base.specs.Driver.{tiles, first_for, first_some}
-use Rattle.m3_machine.specs.Parts.{Site}
+use Rattle.m3_kernel.specs.Parts.{Site}
 use Rattle.m3_machine.specs.Links.{place, list_at}
 use Rattle.m3_machine.specs.Machine.{Machine}
 use Rattle.m3_machine.specs.At.{token, places_of, current_act}

@@ -9,7 +9,7 @@ use Rattle.m3_base.specs.declared.message.Message.{Message}
 use Rattle.m3_base.specs.Context.{ReceiveRecord, Endpoint, Free, Sends, Receives, Reaches, Context, endpoint}
 use Rattle.m3_base.specs.Receive.{with_fetched, fetched_at, unmarked, freed, marking}
 use Rattle.m3_base.specs.Issue.{Issued, first_of, issue, unless, unless_busy, is_busy, less_one, send, send_refusal, reply, reply_refusal, reply_to, fetch, fetch_from, acknowledge, acknowledge_at, acknowledged, may_read, may_write, access_refusal, read, write}
-use Rattle.m3_machine.specs.Naming.{next_token_at}
+use Rattle.m3_kernel.specs.Naming.{next_token_at}
 use Rattle.m3_machine.specs.Low.{HasLow}
 
 pub low_more : (n : ℕ) (c : Context) → HasLow n c → HasLow (n + 1) c

@@ -9,10 +9,10 @@ use Rattle.m3_base.specs.Setup.{SetupValue, IsValid}
 use Rattle.m3_merge.specs.Parts.{Each}
 use Rattle.m3_merge.proofs.Merged.{each_map}
 use Rattle.m3_core.specs.declared.parcel.Parcel.{Parcel as CodeParcel}
-use Rattle.m3_machine.specs.declared.site.Home.{Home as CodeHome}
-use Rattle.m3_machine.specs.Homes.{value_of}
-use Rattle.m3_machine.specs.Parts.{Home, Site, Tile}
-use Rattle.m3_machine.specs.Parcels.{parcels_of}
+use Rattle.m3_kernel.specs.declared.site.Home.{Home as CodeHome}
+use Rattle.m3_kernel.specs.Homes.{value_of}
+use Rattle.m3_kernel.specs.Parts.{Home, Site, Tile}
+use Rattle.m3_kernel.specs.Parcels.{parcels_of}
 use Rattle.m3_machine.specs.Table.{HasContexts}
 use Rattle.m3_machine.specs.TileView.{first_of, seated_with}
 use Rattle.m3_machine.specs.Seated.{seated_tiles}

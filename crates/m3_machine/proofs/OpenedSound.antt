@@ -11,10 +11,10 @@ use Rattle.m3_base.specs.Places as places
 use Rattle.m3_base.specs.Places.{Places, Actor}
 use Rattle.m3_merge.specs.Parts.{Each}
 use Rattle.m3_merge.proofs.Merged.{each_map}
-use Rattle.m3_machine.specs.Parts.{Home, Site, home_act, home_of, tile_of, tile_in, Parcel, Seating, Is_placed, Is_leaving, Is_resting, Is_coming, Seat}
-use Rattle.m3_machine.specs.Naming.{is_home, is_named_context}
+use Rattle.m3_kernel.specs.Parts.{Home, Site, home_act, home_of, tile_of, tile_in, Parcel, Seating, Is_placed, Is_leaving, Is_resting, Is_coming, Seat}
+use Rattle.m3_kernel.specs.Naming.{is_home, is_named_context}
 use Rattle.m3_machine.specs.Tile.{stay_act, stay_of, act_in}
-use Rattle.m3_machine.specs.Kernel.{seat_act, seat_of}
+use Rattle.m3_kernel.specs.Kernel.{seat_act, seat_of}
 use Rattle.m3_machine.specs.Machine.{Machine, empty_tile, tile_at, new_stay, is_there}
 use Rattle.m3_machine.specs.At.{on_links, contexts_in, all_contexts, by_act, current_act, places_of}
 use Rattle.m3_machine.specs.Sound.{ActsApart, IsThere, placed_on}
@@ -26,8 +26,9 @@ use Rattle.m3_machine.proofs.Along.{Along}
 use Rattle.m3_base.specs.State.{holder}
 use Rattle.m3_base.specs.Obeys.{AllObey}
 use Rattle.m3_base.specs.Opening.{opening}
-use Rattle.m3_machine.specs.Kernel.{is_leaving_seat, is_leaving_at, is_coming_seat}
-use Rattle.m3_machine.specs.Machine.{site_of, empty_tiles, link_at, opened_machine}
+use Rattle.m3_kernel.specs.Kernel.{is_leaving_seat, is_leaving_at, is_coming_seat}
+use Rattle.m3_machine.specs.Machine.{empty_tiles, link_at, opened_machine}
+use Rattle.m3_kernel.specs.Sites.{site_of}
 use Rattle.m3_machine.specs.At.{packets_in, closed_in, all_packets, all_closed, by_name, is_in, closed_from, at}
 use Rattle.m3_machine.specs.Sound.{NamesApart, ClosedApart, At, Walks, IsSound, ParcelOk, Orderly, SeatOk, HeldOk, EndedAs, stay_at, of_act, leavings, is_leaving_of, is_coming_at}
 use Rattle.m3_machine.proofs.SeatedAll.{with_homes, all_seated}

@@ -9,8 +9,8 @@ use Rattle.m3_base.specs.State.{context_of}
 use Rattle.m3_base.specs.Places as places
 use Rattle.m3_base.specs.Places.{Places}
 use Rattle.m3_merge.specs.Parts.{Each}
-use Rattle.m3_machine.specs.Parts.{Site, Parcel, Data}
-use Rattle.m3_machine.specs.Naming.{is_named_context}
+use Rattle.m3_kernel.specs.Parts.{Site, Parcel, Data}
+use Rattle.m3_kernel.specs.Naming.{is_named_context}
 use Rattle.m3_machine.specs.Machine.{Machine, tile_at, link_at, with_link}
 use Rattle.m3_machine.specs.At.{each, on_links, here, away, held_by, contexts_in, packets_in, closed_in, all_contexts, all_packets, all_closed, by_act, by_name, closed_from, is_in, at, token, current_act, actor_in, places_of}
 use Rattle.m3_machine.specs.Sound.{ActsApart, NamesApart, ClosedApart, Walks, placed_on, IsThere, ParcelOk, Orderly, of_act, leavings, IsSound}

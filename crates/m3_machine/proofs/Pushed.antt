@@ -12,8 +12,8 @@ use Rattle.m3_base.specs.Places.{Places}
 use Rattle.m3_base.proofs.Names.{same_name-turned}
 use Rattle.m3_merge.specs.Parts.{Each}
 use Rattle.m3_merge.proofs.Merged.{each_append}
-use Rattle.m3_machine.specs.Parts.{Site, Parcel, Data, Save, Saved, Restore, Yield, Closed}
-use Rattle.m3_machine.specs.Naming.{is_named_context}
+use Rattle.m3_kernel.specs.Parts.{Site, Parcel, Data, Save, Saved, Restore, Yield, Closed}
+use Rattle.m3_kernel.specs.Naming.{is_named_context}
 use Rattle.m3_machine.specs.Machine.{Machine, tile_at, link_at, pushed}
 use Rattle.m3_machine.specs.At.{each, on_links, here, away, held_by, contexts_in, packets_in, closed_in, all_contexts, all_packets, all_closed, by_act, by_name, closed_from, is_in, at, token, current_act, actor_in, places_of}
 use Rattle.m3_machine.specs.Sound.{ActsApart, NamesApart, ClosedApart, IsShut, Walks, placed_on, IsThere, ParcelOk, Orderly, no_yield, of_act, leavings, IsSound}

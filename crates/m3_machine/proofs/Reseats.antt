@@ -7,8 +7,8 @@ use Rattle.m3_base.specs.Sums.{one, how_many}
 use Rattle.m3_base.specs.State.{same_act}
 use Rattle.m3_base.specs.Places.{Actor, actor_act, same_actor}
 use Rattle.m3_base.proofs.Keyed.{find-replaced_other, find-replaced_same, how_many-replaced}
-use Rattle.m3_machine.specs.Parts.{Home, Site, home_of, Parcel, Data, Save, Saved, Restore, Yield, Closed, Tile, Seat, Kernel}
-use Rattle.m3_machine.specs.Kernel.{seat_act, seat_of, placed_at}
+use Rattle.m3_kernel.specs.Parts.{Home, Site, home_of, Parcel, Data, Save, Saved, Restore, Yield, Closed, Tile, Seat, Kernel}
+use Rattle.m3_kernel.specs.Kernel.{seat_act, seat_of, placed_at}
 use Rattle.m3_machine.specs.Machine.{Machine}
 use Rattle.m3_machine.specs.At.{actor_in}
 use Rattle.m3_machine.specs.Sound.{HomesApart, act_of_seat, is_placed_at, is_here_seat, ParcelOk}

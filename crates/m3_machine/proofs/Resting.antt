@@ -7,9 +7,9 @@ use Rattle.m3_base.specs.Keyed as keyed
 use Rattle.m3_base.specs.Context.{Context}
 use Rattle.m3_base.specs.State.{same_act}
 use Rattle.m3_base.specs.Places.{target, is_here}
-use Rattle.m3_machine.specs.Parts.{Site, tile_of, Parcel, Data, Save, Saved, Restore, Heard, Away, Is_placed, Is_leaving, Is_coming, Seat, Kernel, Deed}
+use Rattle.m3_kernel.specs.Parts.{Site, tile_of, Parcel, Data, Save, Saved, Restore, Heard, Away, Is_placed, Is_leaving, Is_coming, Seat, Kernel, Deed}
 use Rattle.m3_machine.specs.Tile.{act_in}
-use Rattle.m3_machine.specs.Kernel.{seat_act, seated, join_ready, rests, restored, restored_by, with_yielded}
+use Rattle.m3_kernel.specs.Kernel.{seat_act, seated, join_ready, rests, restored, restored_by, with_yielded}
 use Rattle.m3_machine.specs.Machine.{Machine, Is_kernel, tile_at, link_at, with_link, with_part, pushed_all}
 use Rattle.m3_machine.specs.At.{away_in, all_contexts, current_act, at}
 use Rattle.m3_machine.specs.Sound.{ActsApart, Walks, placed_on, IsSound}

@@ -13,10 +13,10 @@ use Rattle.m3_base.proofs.Keyed.{find-replaced_other, find-replaced_same}
 use Rattle.m3_merge.specs.Parts.{Each}
 use Rattle.m3_merge.proofs.Merged.{each_map}
 use Rattle.m3_merge.proofs.Stamps.{each_back}
-use Rattle.m3_machine.specs.Parts.{Site, Home, Kernel, home_of, tile_of, tile_in, Heard, Parcel, Data, Save, Saved, Restore, Yield, Closed, Stay, Tile, Seating, Is_placed, Is_leaving, Is_resting, Is_coming, Seat, dropped}
-use Rattle.m3_machine.specs.Naming.{is_named_context, has_low_numbers}
+use Rattle.m3_kernel.specs.Parts.{Site, Home, Kernel, home_of, tile_of, tile_in, Heard, Parcel, Data, Save, Saved, Restore, Yield, Closed, Stay, Tile, Seating, Is_placed, Is_leaving, Is_resting, Is_coming, Seat, dropped}
+use Rattle.m3_kernel.specs.Naming.{is_named_context, has_low_numbers}
 use Rattle.m3_machine.specs.Tile.{stay_act, stay_of, with_stay, with_current, begun, take_restore, restored}
-use Rattle.m3_machine.specs.Kernel.{seat_of}
+use Rattle.m3_kernel.specs.Kernel.{seat_of}
 use Rattle.m3_machine.specs.Machine.{Machine, Is_tile, empty_tile, tile_at, link_at, with_link, with_part, mstep, done_by, of_tile}
 use Rattle.m3_machine.specs.At.{each, on_links, as_list, here, away, contexts_in, packets_in, closed_in, held_by, all_contexts, all_packets, all_closed, is_in, at, token, actor_in, actor_by, current_act, places_of}
 use Rattle.m3_machine.specs.Sound.{NamesApart, ClosedApart, IsThere, LivesAt, Walks, placed_on, stay_at, EndedAs, ParcelOk, SeatOk, leavings, IsSound}

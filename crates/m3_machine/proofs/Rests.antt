@@ -14,10 +14,10 @@ use Rattle.m3_base.specs.Places as places
 use Rattle.m3_base.specs.Places.{Places, Actor, pstep, joins}
 use Rattle.m3_merge.specs.Parts.{Each}
 use Rattle.m3_merge.proofs.Merged.{each_map}
-use Rattle.m3_machine.specs.Parts.{Home, Site, home_of, tile_of, has_program, programmed, Parcel, Data, Save, Saved, Restore, Yield, Closed, Seating, Is_placed, Is_leaving, Is_resting, Is_coming, Seat, Kernel, Deed, dropped}
-use Rattle.m3_machine.specs.Naming.{is_named_context}
+use Rattle.m3_kernel.specs.Parts.{Home, Site, home_of, tile_of, has_program, programmed, Parcel, Data, Save, Saved, Restore, Yield, Closed, Seating, Is_placed, Is_leaving, Is_resting, Is_coming, Seat, Kernel, Deed, dropped}
+use Rattle.m3_kernel.specs.Naming.{is_named_context}
 use Rattle.m3_machine.specs.Tile.{stay_of}
-use Rattle.m3_machine.specs.Kernel.{seat_act, seat_of, seated, rests, join_ready, is_placed_seat, is_leaving_seat, is_coming_seat, is_leaving_at, take_saved, then_restore}
+use Rattle.m3_kernel.specs.Kernel.{seat_act, seat_of, seated, rests, join_ready, is_placed_seat, is_leaving_seat, is_coming_seat, is_leaving_at, take_saved, then_restore}
 use Rattle.m3_machine.specs.Machine.{Machine, tile_at, link_at, with_link, pushed_all, mstep, done_by, of_kernel}
 use Rattle.m3_machine.specs.At.{each, on_links, here, away, away_in, held_by, contexts_in, packets_in, closed_in, all_contexts, all_packets, all_closed, is_in, at, token, actor_in, actor_by, current_act, places_of}
 use Rattle.m3_machine.specs.Sound.{ActsApart, NamesApart, ClosedApart, stay_at, EndedAs, placed_on, is_placed_at, is_coming_at, is_leaving_of, is_here_seat, ParcelOk, SeatOk, HeldOk, Walks, Orderly, no_yield, leavings, IsSound}

@@ -18,9 +18,9 @@ use Rattle.m3_base.specs.Places as places
 use Rattle.m3_base.specs.Places.{pstep}
 use Rattle.m3_merge.specs.Parts.{Each}
 use Rattle.m3_merge.proofs.Merged.{each_map}
-use Rattle.m3_machine.specs.Parts.{Site}
-use Rattle.m3_machine.specs.Naming.{is_home}
-use Rattle.m3_machine.specs.Kernel.{is_under_close, revoke_with}
+use Rattle.m3_kernel.specs.Parts.{Site}
+use Rattle.m3_kernel.specs.Naming.{is_home}
+use Rattle.m3_kernel.specs.Kernel.{is_under_close, revoke_with}
 use Rattle.m3_machine.specs.Machine.{Machine, link_at, mstep, done_by, of_kernel}
 use Rattle.m3_machine.specs.At.{all_closed, is_in, closed_if, closed_from, at, places_of}
 use Rattle.m3_machine.specs.Sound.{IsShut, ParcelOk, IsSound}

@@ -13,10 +13,10 @@ use Rattle.m3_base.specs.Places as places
 use Rattle.m3_base.specs.Places.{Places, Actor, target, actor_act, same_actor}
 use Rattle.m3_merge.specs.Parts.{Each}
 use Rattle.m3_merge.proofs.Merged.{each_append, each_map}
-use Rattle.m3_machine.specs.Parts.{Home, Site, home_act, home_of, tile_of, Data, Seating, Is_placed, Is_leaving, Is_resting, Is_coming, Seat, Kernel}
-use Rattle.m3_machine.specs.Naming.{is_home, is_named, is_named_context}
+use Rattle.m3_kernel.specs.Parts.{Home, Site, home_act, home_of, tile_of, Data, Seating, Is_placed, Is_leaving, Is_resting, Is_coming, Seat, Kernel}
+use Rattle.m3_kernel.specs.Naming.{is_home, is_named, is_named_context}
 use Rattle.m3_machine.specs.Tile.{stay_of}
-use Rattle.m3_machine.specs.Kernel.{seat_act, seat_of, hold, is_placed_seat, is_leaving_at, route_to, route, seat_for, Routed}
+use Rattle.m3_kernel.specs.Kernel.{seat_act, seat_of, hold, is_placed_seat, is_leaving_at, route_to, route, seat_for, Routed}
 use Rattle.m3_machine.specs.Machine.{Machine, tile_at, link_at, pushed, pushed_all}
 use Rattle.m3_machine.specs.At.{each, on_links, here, away, held_by, packets_in, contexts_in, all_contexts, all_packets, all_closed, by_act, closed_from, at, actor_in, actor_by, current_act, places_of}
 use Rattle.m3_machine.specs.Sound.{ActsApart, IsThere, act_of_seat, placed_on, is_placed_at, is_coming_at, has_home, is_leaving_of, is_here_seat, ParcelOk, SeatOk, HeldOk, GoesTo, Walks, IsSound}

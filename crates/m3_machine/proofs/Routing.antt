@@ -7,9 +7,9 @@ use Rattle.m3_base.specs.declared.packet.Packet.{Packet}
 use Rattle.m3_base.specs.Keyed as keyed
 use Rattle.m3_base.specs.Context.{Context}
 use Rattle.m3_base.specs.State.{same_act}
-use Rattle.m3_machine.specs.Parts.{Site, Parcel, Data, Save, Saved, Seat, Stay, dropped, says}
+use Rattle.m3_kernel.specs.Parts.{Site, Parcel, Data, Save, Saved, Seat, Stay, dropped, says}
 use Rattle.m3_machine.specs.Tile.{stay_of, waits, has_ended, with_current, take_save}
-use Rattle.m3_machine.specs.Kernel.{seat_act, hold}
+use Rattle.m3_kernel.specs.Kernel.{seat_act, hold}
 use Rattle.m3_machine.specs.Machine.{Machine, Is_kernel, tile_at, link_at, with_link, with_part, pushed_all, mstep, done_by, of_tile}
 use Rattle.m3_machine.specs.At.{each, on_links, here, away, held_by, contexts_in, packets_in, closed_in, all_packets, by_act, closed_from, at}
 use Rattle.m3_machine.specs.Sound.{NamesApart}

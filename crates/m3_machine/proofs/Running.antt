@@ -6,10 +6,10 @@ use Rattle.std.proofs.lemmas.List.{map-set, set-get_or}
 use Rattle.m3_base.specs.Context.{Context}
 use Rattle.m3_base.specs.State.{put_context}
 use Rattle.m3_merge.proofs.Merged.{each_map}
-use Rattle.m3_machine.specs.Parts.{Site, Kernel, tile_of, Parcel, Data, Save, Saved, Restore, Yield, Closed, Tile, Seating, Is_placed, Is_leaving, Is_resting, Is_coming, Seat}
-use Rattle.m3_machine.specs.Naming.{is_named_context}
+use Rattle.m3_kernel.specs.Parts.{Site, Kernel, tile_of, Parcel, Data, Save, Saved, Restore, Yield, Closed, Tile, Seating, Is_placed, Is_leaving, Is_resting, Is_coming, Seat}
+use Rattle.m3_kernel.specs.Naming.{is_named_context}
 use Rattle.m3_machine.specs.Tile.{act_in, stay_of}
-use Rattle.m3_machine.specs.Kernel.{seat_of}
+use Rattle.m3_kernel.specs.Kernel.{seat_of}
 use Rattle.m3_machine.specs.Machine.{Machine, Is_tile, empty_tile, tile_at, link_at, with_part}
 use Rattle.m3_machine.specs.At.{each, on_links, as_list, here, away, contexts_in, all_contexts, all_closed, by_name, all_packets, closed_from, at, actor_in, current_act, places_of}
 use Rattle.m3_machine.specs.Sound.{Walks, placed_on, LivesAt, stay_at, ParcelOk, SeatOk, IsSound}

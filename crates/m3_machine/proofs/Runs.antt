@@ -7,7 +7,7 @@ use Rattle.m3_base.specs.Places.{Places}
 use Rattle.m3_base.specs.PlaceSteps.{IsPlaceStep}
 use Rattle.m3_base.specs.Entries.{Says, next_state, after, IsRun}
 use Rattle.m3_laws.proofs.Quiets.{QuietInvariant, quiet_invariant_opening}
-use Rattle.m3_machine.specs.Parts.{Site}
+use Rattle.m3_kernel.specs.Parts.{Site}
 use Rattle.m3_machine.specs.Machine.{Machine}
 use Rattle.m3_machine.specs.At.{at, places_of}
 use Rattle.m3_machine.specs.Kept.{IsKept, Means, PlacesRun, Ran}

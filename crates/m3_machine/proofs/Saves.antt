@@ -11,8 +11,8 @@ use Rattle.m3_base.specs.State.{same_act}
 use Rattle.m3_base.specs.Places.{target, is_here}
 use Rattle.m3_merge.specs.Parts.{Each}
 use Rattle.m3_merge.proofs.Merged.{each_map}
-use Rattle.m3_machine.specs.Parts.{Site, Home, home_of, tile_of, tile_in, Parcel, Data, Save, Saved, Stay, Tile}
-use Rattle.m3_machine.specs.Naming.{is_home, is_named_context}
+use Rattle.m3_kernel.specs.Parts.{Site, Home, home_of, tile_of, tile_in, Parcel, Data, Save, Saved, Stay, Tile}
+use Rattle.m3_kernel.specs.Naming.{is_home, is_named_context}
 use Rattle.m3_machine.specs.Tile.{stay_of, with_current, waits}
 use Rattle.m3_machine.specs.Machine.{Machine, Is_tile, empty_tile, tile_at, link_at, with_link, with_part, pushed_all, mstep}
 use Rattle.m3_machine.specs.At.{each, on_links, as_list, here, away, contexts_in, packets_in, closed_in, held_by, all_contexts, all_packets, all_closed, is_in, current_act}

@@ -10,9 +10,9 @@ use Rattle.m3_base.specs.Context.{Context}
 use Rattle.m3_base.specs.State.{context_of, new_context_in, same_act}
 use Rattle.m3_base.specs.Places as places
 use Rattle.m3_base.specs.Places.{Places, Actor, Token, Did, pstep, actor_act, same_actor}
-use Rattle.m3_machine.specs.Parts.{Home, Site, home_act, home_of, Parcel, Save, Saved, Stay, Tile}
+use Rattle.m3_kernel.specs.Parts.{Home, Site, home_act, home_of, Parcel, Save, Saved, Stay, Tile}
 use Rattle.m3_machine.specs.Tile.{with_current, stay_of, waits, unread_at}
-use Rattle.m3_machine.specs.Kernel.{seat_of}
+use Rattle.m3_kernel.specs.Kernel.{seat_of}
 use Rattle.m3_machine.specs.Machine.{Machine, Is_tile, empty_tile, tile_at, link_at, with_link, with_part, pushed_all}
 use Rattle.m3_machine.specs.At.{each, on_links, as_list, here, away, contexts_in, all_contexts, by_act, at, token, actor_in, actor_by, pending_in, ended_in, current_act, places_of}
 use Rattle.m3_machine.specs.Sound.{ActsApart}

@@ -10,10 +10,10 @@ use Rattle.m3_base.specs.Places as places
 use Rattle.m3_base.specs.Places.{Places, Actor}
 use Rattle.m3_merge.specs.Parts.{Each}
 use Rattle.m3_merge.proofs.Stamps.{each_front, each_back}
-use Rattle.m3_machine.specs.Parts.{Home, Site}
-use Rattle.m3_machine.specs.Naming.{is_named_context}
+use Rattle.m3_kernel.specs.Parts.{Home, Site}
+use Rattle.m3_kernel.specs.Naming.{is_named_context}
 use Rattle.m3_machine.specs.Tile.{stay_of, act_in}
-use Rattle.m3_machine.specs.Kernel.{seat_act, seat_of}
+use Rattle.m3_kernel.specs.Kernel.{seat_act, seat_of}
 use Rattle.m3_machine.specs.Machine.{Machine, empty_tile, tile_at, new_stay, first_there, opened_seating, joined_ready, is_there, seated_at_opening, with_seats}
 use Rattle.m3_machine.specs.At.{actor_in, actor_by, current_act, token, places_of}
 use Rattle.m3_machine.specs.Sound.{ActsApart, IsThere, LivesAt, has_home}

@@ -9,10 +9,10 @@ use Rattle.m3_base.specs.Context.{Context}
 use Rattle.m3_base.specs.State.{State, context_of, new_context_in}
 use Rattle.m3_merge.specs.Parts.{Each}
 use Rattle.m3_merge.proofs.Merged.{each_append, each_map}
-use Rattle.m3_machine.specs.Parts.{Home, Site, home_act, tile_of, tile_in, Tile, Is_placed, Is_resting, Seat, Kernel}
-use Rattle.m3_machine.specs.Naming.{is_named_context}
+use Rattle.m3_kernel.specs.Parts.{Home, Site, home_act, tile_of, tile_in, Tile, Is_placed, Is_resting, Seat, Kernel}
+use Rattle.m3_kernel.specs.Naming.{is_named_context}
 use Rattle.m3_machine.specs.Tile.{stay_act, stay_of, act_in}
-use Rattle.m3_machine.specs.Kernel.{seat_act, seat_of, placed_at}
+use Rattle.m3_kernel.specs.Kernel.{seat_act, seat_of, placed_at}
 use Rattle.m3_machine.specs.Machine.{Machine, empty_tile, tile_at, new_stay, first_there, opened_seating, joined_ready, is_there}
 use Rattle.m3_machine.specs.At.{each, on_links, as_list, here, away, contexts_in, all_contexts, by_act}
 use Rattle.m3_machine.specs.Sound.{IsThere, LivesAt, act_of_seat, placed_on, is_placed_at, has_home}

@@ -12,10 +12,10 @@ use Rattle.m3_base.specs.Places.{Places, Actor}
 use Rattle.m3_merge.specs.Parts.{Each}
 use Rattle.m3_merge.proofs.Merged.{each_append}
 use Rattle.m3_merge.proofs.Stamps.{each_front, each_back}
-use Rattle.m3_machine.specs.Parts.{Home, Site, home_act, Seating, Is_placed, Is_leaving, Is_resting, Is_coming, Seat}
-use Rattle.m3_machine.specs.Naming.{is_named_context}
+use Rattle.m3_kernel.specs.Parts.{Home, Site, home_act, Seating, Is_placed, Is_leaving, Is_resting, Is_coming, Seat}
+use Rattle.m3_kernel.specs.Naming.{is_named_context}
 use Rattle.m3_machine.specs.Tile.{stay_of, act_in}
-use Rattle.m3_machine.specs.Kernel.{seat_act, seat_of, placed_at}
+use Rattle.m3_kernel.specs.Kernel.{seat_act, seat_of, placed_at}
 use Rattle.m3_machine.specs.Machine.{Machine, tile_at, new_stay, is_there}
 use Rattle.m3_machine.specs.At.{all_contexts, by_act}
 use Rattle.m3_machine.specs.Sound.{ActsApart, IsThere, LivesAt, placed_on, is_placed_at, has_home}

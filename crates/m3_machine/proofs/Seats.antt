@@ -4,7 +4,7 @@ use Rattle.std.proofs.lemmas.Bool.{cases_eq}
 use Rattle.std.proofs.lemmas.List.{get_or_append_left, get_or-set_same, get_or-set_other, length-set}
 use Rattle.std.proofs.Math.Seq.{get_or-append_seam}
 use Rattle.m3_base.specs.Context.{Context}
-use Rattle.m3_machine.specs.Parts.{Tile}
+use Rattle.m3_kernel.specs.Parts.{Tile}
 use Rattle.m3_machine.specs.Low.{HasLow, LowIn, AreLow}
 use Rattle.m3_machine.specs.TileView.{first_of}
 

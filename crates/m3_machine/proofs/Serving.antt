@@ -16,8 +16,8 @@ use Rattle.m3_base.specs.Steps.{Landing, irun, on_from, land_in}
 use Rattle.m3_base.specs.Places as places
 use Rattle.m3_base.specs.Places.{pstep, target, came, landing_step, still, push_answer}
 use Rattle.m3_base.proofs.Sorting.{change-new, find-new}
-use Rattle.m3_machine.specs.Parts.{Site, tile_of, Parcel, Data, Save, Saved, Restore, Yield, Closed, dropped}
-use Rattle.m3_machine.specs.Naming.{is_home, is_named}
+use Rattle.m3_kernel.specs.Parts.{Site, tile_of, Parcel, Data, Save, Saved, Restore, Yield, Closed, dropped}
+use Rattle.m3_kernel.specs.Naming.{is_home, is_named}
 use Rattle.m3_machine.specs.Memory.{served, serve}
 use Rattle.m3_machine.specs.Machine.{Machine, Is_memory, link_at, with_link, pushed_all, part_step, mstep, done_by, front, rest, of_memory}
 use Rattle.m3_machine.specs.At.{at, token, places_of}

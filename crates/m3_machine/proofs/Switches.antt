@@ -15,10 +15,10 @@ use Rattle.m3_base.specs.Places as places
 use Rattle.m3_base.specs.Places.{Places, Actor, pstep}
 use Rattle.m3_merge.specs.Parts.{Each}
 use Rattle.m3_merge.proofs.Merged.{each_map}
-use Rattle.m3_machine.specs.Parts.{Home, Site, tile_of, Save, Away, Seating, Is_placed, Is_leaving, Is_resting, Is_coming, Seat, Kernel, says}
-use Rattle.m3_machine.specs.Naming.{is_home, is_named_context}
+use Rattle.m3_kernel.specs.Parts.{Home, Site, tile_of, Save, Away, Seating, Is_placed, Is_leaving, Is_resting, Is_coming, Seat, Kernel, says}
+use Rattle.m3_kernel.specs.Naming.{is_home, is_named_context}
 use Rattle.m3_machine.specs.Tile.{stay_of}
-use Rattle.m3_machine.specs.Kernel.{seat_act, seat_of, seated, leave_ready, ready_at, is_placed_seat, is_leaving_seat, is_coming_seat, is_leaving_at, is_moving_at, placed_at, switch, switch_seat, switched}
+use Rattle.m3_kernel.specs.Kernel.{seat_act, seat_of, seated, leave_ready, ready_at, is_placed_seat, is_leaving_seat, is_coming_seat, is_leaving_at, is_moving_at, placed_at, switch, switch_seat, switched}
 use Rattle.m3_machine.specs.Machine.{Machine, tile_at, link_at, pushed, mstep, done_by, of_kernel}
 use Rattle.m3_machine.specs.At.{each, here, away, away_in, held_by, contexts_in, packets_in, closed_in, all_contexts, all_packets, all_closed, is_in, by_act, by_name, closed_from, at, actor_in, actor_by, current_act, places_of}
 use Rattle.m3_machine.specs.Sound.{ActsApart, NamesApart, ClosedApart, IsThere, has_home, act_of_seat, placed_on, is_placed_at, is_coming_at, is_leaving_of, is_here_seat, ParcelOk, SeatOk, HeldOk, Walks, leavings, IsSound}

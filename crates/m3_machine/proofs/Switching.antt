@@ -9,9 +9,9 @@ use Rattle.m3_base.specs.Flight.{name_of, same_name, flight}
 use Rattle.m3_base.specs.Context.{Context}
 use Rattle.m3_base.specs.Keyed as keyed
 use Rattle.m3_base.specs.State.{context_of, same_act}
-use Rattle.m3_machine.specs.Kernel.{seat_act}
+use Rattle.m3_kernel.specs.Kernel.{seat_act}
 use Rattle.m3_base.proofs.Names.{same_name-turned}
-use Rattle.m3_machine.specs.Parts.{Parcel, Data, Save, Saved, Restore, Heard, Tile, Seat, Kernel, Is_leaving}
+use Rattle.m3_kernel.specs.Parts.{Parcel, Data, Save, Saved, Restore, Heard, Tile, Seat, Kernel, Is_leaving}
 use Rattle.m3_machine.specs.Tile.{with_current}
 use Rattle.m3_machine.specs.Machine.{Machine, Is_tile, empty_tile, tile_at, link_at, with_link, with_part, pushed_all}
 use Rattle.m3_machine.specs.At.{each, on_links, as_list, here, away, away_in, held_by, contexts_in, packets_in, closed_in, all_contexts, all_packets, by_act, by_name, closed_from, at}

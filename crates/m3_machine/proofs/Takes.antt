@@ -13,9 +13,9 @@ use Rattle.m3_base.specs.Places.{pstep, target, target_of}
 use Rattle.m3_merge.specs.Parts.{Each}
 use Rattle.m3_merge.proofs.Merged.{each_map}
 use Rattle.m3_machine.proofs.Reseats.{parcel_kernel}
-use Rattle.m3_machine.specs.Parts.{Site, tile_of, Parcel, Data, Yield, Seat, says, dropped}
-use Rattle.m3_machine.specs.Naming.{is_named, is_named_context}
-use Rattle.m3_machine.specs.Kernel.{seat_of, is_placed_seat, is_leaving_seat, with_yielded, route, take_routed, routed_said, target_or, take_yield, kernel_take, Routed}
+use Rattle.m3_kernel.specs.Parts.{Site, tile_of, Parcel, Data, Yield, Seat, says, dropped}
+use Rattle.m3_kernel.specs.Naming.{is_named, is_named_context}
+use Rattle.m3_kernel.specs.Kernel.{seat_of, is_placed_seat, is_leaving_seat, with_yielded, route, take_routed, routed_said, target_or, take_yield, kernel_take, Routed}
 use Rattle.m3_machine.specs.Machine.{Machine, Is_kernel, tile_at, link_at, with_link, with_part, mstep, done_by, part_step, front, rest, of_kernel}
 use Rattle.m3_machine.specs.At.{each, here, away, held_by, contexts_in, packets_in, closed_in, all_contexts, all_packets, all_closed, is_in, by_act, by_name, closed_from, at, token, current_act, places_of}
 use Rattle.m3_machine.specs.Sound.{ActsApart, NamesApart, ClosedApart, IsThere, is_here_seat, ParcelOk, GoesTo, Walks, placed_on, of_act, leavings, IsSound}

@@ -11,7 +11,7 @@ use Rattle.m3_base.specs.Context.{Context}
 use Rattle.m3_base.specs.Arrive.{Arrived}
 use Rattle.m3_base.specs.Places.{target, is_here}
 use Rattle.m3_machine.specs.declared.tile.TileDid.{TileDid}
-use Rattle.m3_machine.specs.Parts.{Site, Heard, First, Stay, Tile, Deed, Data, says, heard_of}
+use Rattle.m3_kernel.specs.Parts.{Site, Heard, First, Stay, Tile, Deed, Data, says, heard_of}
 use Rattle.m3_machine.specs.Tile.{stay_act, stay_of, with_stay, hears_all, hearing, heard_by, act_in, take_arrived, arrive_named, take_here, take_data}
 use Rattle.m3_machine.specs.Machine.{new_stay}
 use Rattle.m3_machine.specs.Telling.{Lands, Does}

@@ -23,11 +23,11 @@ use Rattle.m3_base.specs.Setup.{SetupValue}
 use Rattle.m3_core.specs.declared.parcel.Emit.{Emit}
 use Rattle.m3_core.specs.declared.parcel.Parcel.{Parcel as CodeParcel}
 use Rattle.m3_machine.specs.declared.tile.TileDid.{TileDid}
-use Rattle.m3_machine.specs.Parts.{Site, Heard, Stay, heard_of, Parcel, Data, Closed, Tile, says, tile_of, data_out, closed_out, answer_tile}
-use Rattle.m3_machine.specs.Naming.{is_named}
+use Rattle.m3_kernel.specs.Parts.{Site, Heard, Stay, heard_of, Parcel, Data, Closed, Tile, says, tile_of, data_out, closed_out, answer_tile}
+use Rattle.m3_kernel.specs.Naming.{is_named}
 use Rattle.m3_machine.specs.Tile.{with_current, stay_of, heard_by, take_data, take_here, take_arrived, arrive_named, act_in}
 use Rattle.m3_machine.specs.Links.{place, list_at, popped, first, HasRoom}
-use Rattle.m3_machine.specs.Parcels.{parcel_of, parcels_of, out_of}
+use Rattle.m3_kernel.specs.Parcels.{parcel_of, parcels_of, out_of}
 use Rattle.m3_machine.specs.Telling.{Does}
 use Rattle.m3_machine.specs.Low.{HasLow, LowIn, AreLow}
 use Rattle.m3_machine.specs.Whole.{Whole, site, machine_of, entry, out_links, HasRoomFor, IsNamedAt, HasFront, Steps}

@@ -13,10 +13,10 @@ use Rattle.m3_base.specs.Places.{Places, Actor, joins}
 use Rattle.m3_merge.specs.Parts.{Each}
 use Rattle.m3_merge.proofs.Merged.{each_map}
 use Rattle.m3_merge.proofs.Stamps.{each_back}
-use Rattle.m3_machine.specs.Parts.{Home, Site, tile_of, Tile, Away, Seating, Is_resting, Is_coming, Seat, Kernel}
-use Rattle.m3_machine.specs.Naming.{is_named_context}
+use Rattle.m3_kernel.specs.Parts.{Home, Site, tile_of, Tile, Away, Seating, Is_resting, Is_coming, Seat, Kernel}
+use Rattle.m3_kernel.specs.Naming.{is_named_context}
 use Rattle.m3_machine.specs.Tile.{stay_of}
-use Rattle.m3_machine.specs.Kernel.{seat_act, seat_of, join_ready, after_packet, is_placed_seat, is_leaving_seat, is_coming_seat, is_leaving_at}
+use Rattle.m3_kernel.specs.Kernel.{seat_act, seat_of, join_ready, after_packet, is_placed_seat, is_leaving_seat, is_coming_seat, is_leaving_at}
 use Rattle.m3_machine.specs.Machine.{Machine, tile_at, link_at}
 use Rattle.m3_machine.specs.At.{each, on_links, here, away, away_in, held_by, contexts_in, packets_in, all_contexts, all_packets, all_closed, by_name, closed_from, at, actor_in, actor_by, current_act, standing, places_of}
 use Rattle.m3_machine.specs.Sound.{is_placed_at, is_coming_at, is_leaving_of, is_here_seat, stay_at, EndedAs, ParcelOk, SeatOk, HeldOk, Walks, IsSound}

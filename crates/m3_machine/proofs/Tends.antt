@@ -16,10 +16,10 @@ use Rattle.m3_base.specs.Arrive.{Arrived, arrive}
 use Rattle.m3_base.specs.Fits.{fits, arrive_fit}
 use Rattle.m3_base.specs.Places as places
 use Rattle.m3_base.specs.Places.{Places, Actor, pstep, target, came, push_closed}
-use Rattle.m3_machine.specs.Parts.{Site, home_of, tile_of, has_program, programmed, Parcel, Closed, Stay, Away, Seating, Is_placed, Is_leaving, Is_resting, Is_coming, Seat, Kernel, Deed, is_idle, closed_out}
-use Rattle.m3_machine.specs.Naming.{is_home, is_named_context}
+use Rattle.m3_kernel.specs.Parts.{Site, home_of, tile_of, has_program, programmed, Parcel, Closed, Stay, Away, Seating, Is_placed, Is_leaving, Is_resting, Is_coming, Seat, Kernel, Deed, is_idle, closed_out}
+use Rattle.m3_kernel.specs.Naming.{is_home, is_named_context}
 use Rattle.m3_machine.specs.Tile.{stay_of}
-use Rattle.m3_machine.specs.Kernel.{seat_of, with_seat, join_ready, Routed, answer_routed, arrived_context, after_packet, tended_by, tend_arrived, tend_away, tend_front, tend_seat, tend_by, is_under_close}
+use Rattle.m3_kernel.specs.Kernel.{seat_of, with_seat, join_ready, Routed, answer_routed, arrived_context, after_packet, tended_by, tend_arrived, tend_away, tend_front, tend_seat, tend_by, is_under_close}
 use Rattle.m3_machine.specs.Machine.{Machine, tile_at, link_at, pushed, pushed_all, mstep, done_by, of_kernel}
 use Rattle.m3_machine.specs.At.{all_packets, all_closed, at, standing, actor_in, actor_by, current_act, places_of}
 use Rattle.m3_machine.specs.Sound.{IsThere, stay_at, EndedAs, HeldThere, is_open, IsShut, SeatOk, HeldOk, Walks, placed_on, Hypotheses, IsSound}

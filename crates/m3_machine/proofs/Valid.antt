@@ -5,8 +5,8 @@ use Rattle.std.proofs.lemmas.Bool.Decides.{nat_tests}
 use Rattle.m3_base.specs.declared.setup_line.SetupLine.{SetupLine}
 use Rattle.m3_base.specs.Setup.{Facts, SetupValue, IsValid, AllKept, no_lines, noted, is_machine}
 use Rattle.m3_base.proofs.Obeying.{valid_obeys}
-use Rattle.m3_machine.specs.Parts.{Home, home_of, tile_of, tile_in}
-use Rattle.m3_machine.specs.Homes.{home_tile}
+use Rattle.m3_kernel.specs.Parts.{Home, home_of, tile_of, tile_in}
+use Rattle.m3_kernel.specs.Homes.{home_tile}
 use Rattle.m3_machine.specs.Sound.{IsSound}
 use Rattle.m3_machine.specs.Whole.{site, opened}
 use Rattle.m3_machine.proofs.Opens.{TilesOk}

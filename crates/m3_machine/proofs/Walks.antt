@@ -5,7 +5,7 @@ use Rattle.std.proofs.lemmas.Bool.Decides.{nat_tests}
 use Rattle.m3_base.specs.declared.packet.Packet.{Packet}
 use Rattle.m3_base.specs.Context.{Context}
 use Rattle.m3_base.specs.Places.{target, is_here}
-use Rattle.m3_machine.specs.Parts.{Parcel, Data, Save, Restore, Heard}
+use Rattle.m3_kernel.specs.Parts.{Parcel, Data, Save, Restore, Heard}
 use Rattle.m3_machine.specs.Sound.{Walk, Off, At, passes, walk, Walks}
 
 pub walk-push : (w : Walk) (qs : List Parcel) (q : Parcel) → walk w (qs ++ q ∷ []) ≡ passes (walk w qs) q

@@ -3,7 +3,7 @@ use Rattle.std.specs.Prelude.{ℕ, Option, Some, None}
 use Rattle.m3_base.specs.declared.command.Command.{Command}
 use Rattle.m3_base.specs.Context.{Fetched, Endpoint, Sends, Receives, Context, endpoint}
 use Rattle.m3_base.specs.Receive.{fetched_at}
-use Rattle.m3_machine.specs.Parts.{Site, tile_of}
+use Rattle.m3_kernel.specs.Parts.{Site, tile_of}
 
 abbrev pub tile_of_sender : Site → Option Fetched → ℕ
 tile_of_sender h None = 0

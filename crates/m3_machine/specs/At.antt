@@ -9,9 +9,9 @@ use Rattle.m3_base.specs.State.{State, Grant, new_context_in}
 use Rattle.m3_base.specs.State as ideal
 use Rattle.m3_base.specs.Places as places
 use Rattle.m3_base.specs.Places.{Places, Actor, Token, Standing_place}
-use Rattle.m3_machine.specs.Parts.{Home, Site, Parcel, Data, Save, Saved, Restore, Yield, Closed, Stay, Tile, Seating, Is_placed, Is_leaving, Is_resting, Is_coming, Seat}
+use Rattle.m3_kernel.specs.Parts.{Home, Site, Parcel, Data, Save, Saved, Restore, Yield, Closed, Stay, Tile, Seating, Is_placed, Is_leaving, Is_resting, Is_coming, Seat}
 use Rattle.m3_machine.specs.Tile.{stay_of, act_in}
-use Rattle.m3_machine.specs.Kernel.{seat_of}
+use Rattle.m3_kernel.specs.Kernel.{seat_of}
 use Rattle.m3_machine.specs.Machine.{Machine, tile_at}
 
 -- ---- what a parcel has

@@ -7,9 +7,10 @@ use Rattle.m3_base.specs.State.{State}
 use Rattle.m3_base.specs.Places.{Places}
 use Rattle.m3_base.specs.PlaceSteps.{IsPlaceStep}
 use Rattle.m3_laws.proofs.Quiets.{QuietInvariant}
-use Rattle.m3_machine.specs.Parts.{Site}
+use Rattle.m3_kernel.specs.Parts.{Site}
 use Rattle.m3_machine.specs.Machine.{Machine}
 use Rattle.m3_machine.specs.At.{at, places_of}
+use Rattle.m3_machine.specs.Moving.{MovesByEntry}
 use Rattle.m3_machine.specs.Sound.{IsSound}
 
 -- its places are in order, and its ideal state keeps the ideal machine's invariant
@@ -22,12 +23,13 @@ abbrev pub IsWithin : Event → Type 0
 IsWithin (Event.Take to from) = (to < 16) × (from < 16)
 IsWithin event = Unit {0}
 
--- the entry says what its ideal steps say, they lead to the state that the machine then stands for, and it is a step of
--- the places
+-- the entry says what its ideal steps say, they lead to the state that the machine then stands for, it is a step of the
+-- places, and just the part of its tile moved, with the links by what that part took and sent
 pub record Means (h : Site) (old : Machine) (e : Entry) (new : Machine) : Type 0 where
   pub says : Says (at old) e
   pub reaches : next_state (at old) e ≡ at new
   pub placed : IsPlaceStep (at old) (places_of h old) e (places_of h new)
+  pub moves : MovesByEntry h old e new
   pub kept : IsKept h new
 
 -- ---- many steps

@@ -1,7 +1,4 @@
-pub mod Parts
-pub mod Naming
 pub mod Tile
-pub mod Kernel
 pub mod Memory
 pub mod Machine
 pub mod At
@@ -9,12 +6,10 @@ pub mod Sound
 pub mod Refines
 pub mod Moving
 pub mod Rows
-pub mod Homes
 pub mod Links
 pub mod Low
 pub mod Whole
 pub mod Kept
-pub mod Parcels
 pub mod Telling
 pub mod TileView
 pub mod Progress
@@ -23,3 +18,4 @@ pub mod Table
 pub mod Seated
 pub mod Next
 pub mod Closing
+pub mod Fronts

@@ -1,8 +1,8 @@
 -- Next numbers and next tokens stay below the number of entries.
 use Rattle.std.specs.Prelude.{ℕ, ◌+◌, ◌<◌, ◌≤◌, List, length, slice_index_or, Option, Some, None}
 use Rattle.m3_base.specs.Context.{Context, endpoint}
-use Rattle.m3_machine.specs.Parts.{Tile}
-use Rattle.m3_machine.specs.Naming.{next_token_at}
+use Rattle.m3_kernel.specs.Parts.{Tile}
+use Rattle.m3_kernel.specs.Naming.{next_token_at}
 
 -- next numbers and next tokens, where the journal has n entries
 pub record HasLow (n : ℕ) (c : Context) : Type 0 where

@@ -9,9 +9,10 @@ use Rattle.m3_base.specs.declared.setup_line.SetupLine.{SetupLine}
 use Rattle.m3_base.specs.Context.{Context}
 use Rattle.m3_base.specs.State.{State, context_of}
 use Rattle.m3_base.specs.Opening.{opening}
-use Rattle.m3_machine.specs.Parts.{Home, Site, tile_of, Parcel, First, Stay, Tile, Seating, Is_placed, Is_resting, Kernel, Deed, is_idle}
+use Rattle.m3_kernel.specs.Sites.{site_of}
+use Rattle.m3_kernel.specs.Parts.{Home, Site, tile_of, Parcel, First, Stay, Tile, Seating, Is_placed, Is_resting, Kernel, Deed, is_idle}
 use Rattle.m3_machine.specs.Tile.{tile_do, tile_turn, tile_take}
-use Rattle.m3_machine.specs.Kernel.{kernel_take, kernel_tend, kernel_close, kernel_order}
+use Rattle.m3_kernel.specs.Kernel.{kernel_take, kernel_tend, kernel_close, kernel_order}
 use Rattle.m3_machine.specs.Memory.{memory_take}
 
 pub record Machine : Type 0 where
@@ -125,20 +126,6 @@ mstep h m e made =
     done_by t (popped e m) (part_step h (part_at t m) e made (took e m))
 
 -- ---- opening
-
--- programs: the activities that have one
-abbrev pub with_home : List ℕ → Site → SetupLine → Site
-with_home programs h (SetupLine.Act a t) =
-    record h { homes = h.homes ++ record { act = a; tile = t; has_program = list_any (λ b. b == a) programs } ∷ [] }
-with_home programs h (SetupLine.Quantum q) = record h { quantum = q }
-with_home programs h line = h
-
-abbrev pub with_homes : List ℕ → Site → List SetupLine → Site
-with_homes programs h [] = h
-with_homes programs h (l ∷ ls) = with_homes programs (with_home programs h l) ls
-
-abbrev pub site_of : ℕ → List ℕ → List SetupLine → Site
-site_of memory programs lines = with_homes programs (record { homes = []; quantum = 8; memory = memory }) lines
 
 abbrev pub new_stay : ℕ → Stay
 new_stay a = record { act = a; pending = None; ended = false; moves = 0; yield_sent = false; seen = First }

@@ -5,8 +5,8 @@ use Rattle.m3_base.specs.declared.command.Answer.{Answer}
 use Rattle.m3_base.specs.declared.packet.Packet.{Packet}
 use Rattle.m3_base.specs.declared.event.Said.{Said}
 use Rattle.m3_base.specs.Land.{bytes_at, written_at}
-use Rattle.m3_machine.specs.Naming.{is_home}
-use Rattle.m3_machine.specs.Parts.{Site, tile_of, Parcel, Data, Deed, says, dropped}
+use Rattle.m3_kernel.specs.Naming.{is_home}
+use Rattle.m3_kernel.specs.Parts.{Site, tile_of, Parcel, Data, Deed, says, dropped}
 
 -- the bytes lie inside memory, and an activity of the setup asks for them
 abbrev pub may_serve : Site → List ℕ → FlightId → ℕ → ℕ → Bool

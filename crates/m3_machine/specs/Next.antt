@@ -4,7 +4,7 @@ use Rattle.m3_base.specs.declared.event.Event.{Event}
 use Rattle.m3_base.specs.declared.journal.AuditLine.{AuditLine}
 use Rattle.m3_base.specs.Driver.{tiles, first_for}
 use Rattle.m3_core.specs.declared.parcel.Parcel.{Parcel as CodeParcel}
-use Rattle.m3_machine.specs.Parts.{Tile}
+use Rattle.m3_kernel.specs.Parts.{Tile}
 use Rattle.m3_machine.specs.Links.{place, list_at}
 use Rattle.m3_machine.specs.Machine.{Machine}
 use Rattle.m3_machine.specs.At.{current_act}

@@ -4,7 +4,7 @@ use Rattle.m3_base.specs.declared.event.Event.{Event}
 use Rattle.m3_base.specs.declared.event.Made.{Made}
 use Rattle.m3_base.specs.Places.{pstep}
 use Rattle.m3_base.specs.Places as places
-use Rattle.m3_machine.specs.Parts.{Site}
+use Rattle.m3_kernel.specs.Parts.{Site}
 use Rattle.m3_machine.specs.Machine.{Machine, Did}
 use Rattle.m3_machine.specs.At.{at, places_of}
 use Rattle.m3_machine.specs.Sound.{IsSound}

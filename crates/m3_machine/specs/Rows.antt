@@ -20,9 +20,10 @@ use Rattle.m3_base.specs.PlacedRows.{expected, delivery_setup, delivery, full_bu
 use Rattle.m3_base.specs.declared.order.GrantLine.{GrantLine}
 use Rattle.m3_base.specs.declared.packet.Perm.{Perm}
 use Rattle.m3_base.specs.declared.command.Reply.{Reply}
-use Rattle.m3_machine.specs.Parts.{Site, Stay, Seen, Got}
+use Rattle.m3_kernel.specs.Parts.{Site, Stay, Seen, Got}
 use Rattle.m3_machine.specs.Tile.{stay_of}
-use Rattle.m3_machine.specs.Machine.{Machine, Did, tile_at, mstep, site_of, opened_machine}
+use Rattle.m3_machine.specs.Machine.{Machine, Did, tile_at, mstep, opened_machine}
+use Rattle.m3_kernel.specs.Sites.{site_of}
 use Rattle.m3_machine.specs.At.{at, places_of}
 
 abbrev pub machine_of : Machine → Option Did → Machine

@@ -1,7 +1,7 @@
 -- The tiles of a machine at opening, as homes take their contexts from a table.
 use Rattle.std.specs.Prelude.{List, [], ◌∷◌, Option, None, slice_index_or, slice_set}
 use Rattle.m3_base.specs.Context.{Context}
-use Rattle.m3_machine.specs.Parts.{Home, Tile}
+use Rattle.m3_kernel.specs.Parts.{Home, Tile}
 use Rattle.m3_machine.specs.Machine.{empty_tile}
 use Rattle.m3_machine.specs.TileView.{seated_with}
 

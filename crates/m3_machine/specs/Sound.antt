@@ -13,10 +13,10 @@ use Rattle.m3_base.specs.State.{Standing, Live, Closing, Grant, grant_in, holder
 use Rattle.m3_base.specs.Places.{target, is_here}
 use Rattle.m3_base.specs.Fits.{fits}
 use Rattle.m3_merge.specs.Parts.{Each}
-use Rattle.m3_machine.specs.Parts.{Home, Site, tile_of, home_of, home_act, Parcel, Data, Save, Saved, Restore, Yield, Closed, Stay, Tile, Away, Seating, Is_placed, Is_leaving, Is_resting, Is_coming, Seat, Kernel}
-use Rattle.m3_machine.specs.Naming.{is_home, is_named, is_named_context}
+use Rattle.m3_kernel.specs.Parts.{Home, Site, tile_of, home_of, home_act, Parcel, Data, Save, Saved, Restore, Yield, Closed, Stay, Tile, Away, Seating, Is_placed, Is_leaving, Is_resting, Is_coming, Seat, Kernel}
+use Rattle.m3_kernel.specs.Naming.{is_home, is_named, is_named_context}
 use Rattle.m3_machine.specs.Tile.{stay_of}
-use Rattle.m3_machine.specs.Kernel.{seat_act, seat_of, placed_at, is_placed_seat, is_leaving_seat, is_leaving_at, is_coming_seat, is_under_close, kernel_id}
+use Rattle.m3_kernel.specs.Kernel.{seat_act, seat_of, placed_at, is_placed_seat, is_leaving_seat, is_leaving_at, is_coming_seat, is_under_close, kernel_id}
 use Rattle.m3_machine.specs.Machine.{Machine, empty_tile, tile_at, link_at}
 use Rattle.m3_machine.specs.At.{all_contexts, all_packets, all_closed, is_in, current_act, at}
 

@@ -10,11 +10,11 @@ use Rattle.m3_base.specs.Arrive.{Arrived as Arrival}
 use Rattle.m3_base.specs.Flight.{name_of}
 use Rattle.m3_core.specs.declared.issued.Issued.{Issued}
 use Rattle.m3_machine.specs.declared.shown.Shown.{Shown}
-use Rattle.m3_machine.specs.Parcels.{out_of}
+use Rattle.m3_kernel.specs.Parcels.{out_of}
 use Rattle.m3_core.specs.declared.arrived.Arrived.{Arrived}
 use Rattle.m3_base.specs.declared.ids.FlightId.{FlightId}
 use Rattle.m3_machine.specs.declared.tile.TileDid.{TileDid}
-use Rattle.m3_machine.specs.Parts.{Site, Parcel, Tile, Deed, data_out, answer_tile, closed_out}
+use Rattle.m3_kernel.specs.Parts.{Site, Parcel, Tile, Deed, data_out, answer_tile, closed_out}
 use Rattle.m3_machine.specs.Tile.{new_out}
 
 abbrev pub shown_of : Message → Shown

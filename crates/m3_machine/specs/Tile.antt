@@ -18,8 +18,8 @@ use Rattle.m3_base.specs.Issue.{flies_always}
 use Rattle.m3_base.specs.Places.{target, is_here, is_repeat}
 use Rattle.m3_base.specs.Arrive.{Arrived}
 use Rattle.m3_base.specs.Fits.{arrive_fit}
-use Rattle.m3_machine.specs.Naming.{is_named, is_named_context, has_low_numbers}
-use Rattle.m3_machine.specs.Parts.{Site, tile_for, is_shared, Heard, Parcel, Data, Save, Saved, Restore, Yield, Closed, Seen, Awake, Got, Waits, Stay, Tile, Deed, says, says_made, is_idle, dropped, data_out, closed_out, answer_tile, heard_of}
+use Rattle.m3_kernel.specs.Naming.{is_named, is_named_context, has_low_numbers}
+use Rattle.m3_kernel.specs.Parts.{Site, tile_for, is_shared, Heard, Parcel, Data, Save, Saved, Restore, Yield, Closed, Seen, Awake, Got, Waits, Stay, Tile, Deed, says, says_made, is_idle, dropped, data_out, closed_out, answer_tile, heard_of}
 
 -- ---- what stays on a tile
 

@@ -4,7 +4,7 @@ use Rattle.m3_base.specs.declared.command.Command.{Command}
 use Rattle.m3_base.specs.Context.{Context}
 use Rattle.m3_core.specs.Conditions.{HasTokenFor}
 use Rattle.m3_machine.specs.declared.tile.TilePart.TheInside.{Inside}
-use Rattle.m3_machine.specs.Parts.{Site, Tile}
+use Rattle.m3_kernel.specs.Parts.{Site, Tile}
 use Rattle.m3_machine.specs.Aims.{aim_of}
 use Rattle.m3_machine.specs.Machine.{new_stay}
 

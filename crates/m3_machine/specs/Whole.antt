@@ -7,16 +7,17 @@ use Rattle.m3_base.specs.declared.ids.FlightId.{FlightId}
 use Rattle.m3_base.specs.Flight.{name_of}
 use Rattle.m3_base.specs.Setup.{SetupValue, IsValid}
 use Rattle.m3_machine.specs.declared.machine.Machine.TheInside.{Inside}
-use Rattle.m3_machine.specs.Parts.{Site, Parcel, Data, Tile}
-use Rattle.m3_machine.specs.Naming.{is_home}
+use Rattle.m3_kernel.specs.Parts.{Site, Parcel, Data, Tile}
+use Rattle.m3_kernel.specs.Naming.{is_home}
 use Rattle.std.specs.declared.collections.VecDeque.{VecDeque}
 use Rattle.std.specs.declared.alloc.Global.{Global}
 use Rattle.m3_core.specs.declared.parcel.Emit.{Emit}
 use Rattle.m3_core.specs.declared.parcel.Parcel.{Parcel as CodeParcel}
-use Rattle.m3_machine.specs.Parcels.{parcels_of}
+use Rattle.m3_kernel.specs.Parcels.{parcels_of}
 use Rattle.m3_machine.specs.Low.{AreLow}
 use Rattle.m3_machine.specs.Links.{place, lists_in, HasRoom}
-use Rattle.m3_machine.specs.Machine.{Machine, link_at, mstep, opened_machine, site_of}
+use Rattle.m3_machine.specs.Machine.{Machine, link_at, mstep, opened_machine}
+use Rattle.m3_kernel.specs.Sites.{site_of}
 
 pub record Whole : Type 0 where
   pub setup : SetupValue

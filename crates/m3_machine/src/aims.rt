@@ -5,7 +5,7 @@ ghost use Rattle.m3_base.specs.Context.{endpoint};
 ghost use Rattle.m3_core.specs.Slots.{fetched_message_at};
 ghost use Rattle.m3_machine.specs.Aims.{aim_of, aim_of_send, aim_of_answer};
 
-use crate::site::Site;
+use m3_kernel::site::Site;
 use m3_base::command::Command;
 use m3_base::ids::{EpId, TileId};
 use m3_base::packet::Fresh;

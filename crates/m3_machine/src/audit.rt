@@ -4,7 +4,7 @@ ghost use Rattle.std.specs.Prelude.{◌≡◌, ◌<◌, ◌≤◌, ◌++◌, len
 ghost use Rattle.m3_machine.specs.Next.{tile_lines};
 
 use crate::links::Links;
-use crate::site::Site;
+use m3_kernel::site::Site;
 use crate::tile::TilePart;
 use m3_base::command::Answer;
 use m3_base::ids::{ActId, FlightId, GrantId, TileId};

@@ -8,5 +8,4 @@ pub mod machine;
 mod next;
 mod opening;
 mod shown;
-pub mod site;
 pub mod tile;

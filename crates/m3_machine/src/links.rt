@@ -2,7 +2,7 @@
 
 ghost use Rattle.std.specs.Prelude.{◌≡◌, ℕ, ◌+◌, ◌*◌, ◌<◌, min, length, replicate, [], OnOk, IfOk};
 ghost use Rattle.m3_machine.specs.Links.{lists_in, pushed, popped, place, first, list_at, HasRoom};
-ghost use Rattle.m3_machine.specs.Parcels.{front_of};
+ghost use Rattle.m3_machine.specs.Fronts.{front_of};
 ghost use Rattle.m3_machine.specs.Next.{is_nil, data_in, data_on};
 
 use m3_base::ids::{FlightId, TileId};

@@ -10,7 +10,7 @@ ghost use Rattle.m3_machine.specs.Low.{HasLow, AreLow};
 ghost use Rattle.m3_machine.specs.Machine.{empty_tiles};
 ghost use Rattle.m3_machine.specs.Seated.{seated_tiles};
 
-use crate::site::Site;
+use m3_kernel::site::Site;
 use crate::tile::TilePart;
 use m3_base::ids::{ActId, EpId, GrantId, TileId};
 use m3_base::order::GrantLine;

@@ -3,16 +3,16 @@
 ghost use Rattle.std.specs.Prelude.{◌≡◌, ◌∷◌, [], IfOk, OnOk, OnErr, IsSome, None, Some, option_copied};
 ghost use Rattle.m3_core.specs.Conditions.{IsBufferFor};
 ghost use Rattle.m3_base.specs.Places.{target, is_here};
-ghost use Rattle.m3_machine.specs.Parts.{closed_out};
+ghost use Rattle.m3_kernel.specs.Parts.{closed_out};
 ghost use Rattle.m3_machine.specs.Tile.{tile_do, new_out, act_in, arrive_named, take_data};
 ghost use Rattle.m3_machine.specs.Telling.{said_issued, packet_issued, plain, credit_of, said_credit, said_came, out_came, NamesCredit, Lands, Does};
-ghost use Rattle.m3_machine.specs.Parcels.{parcel_of, out_of};
+ghost use Rattle.m3_kernel.specs.Parcels.{parcel_of, out_of};
 ghost use Rattle.m3_machine.specs.Machine.{empty_tile};
 ghost use Rattle.m3_machine.specs.TileView.{CanIssue, aim_at, seated_with};
 
 use crate::aims::aim;
 use crate::shown::{Shown, fetched, front};
-use crate::site::Site;
+use m3_kernel::site::Site;
 use m3_base::command::Command;
 use m3_base::event::{IdleWhy, Outcome, Said};
 use m3_base::ids::{ActId, FlightId, GrantId, TileId};
@@ -41,7 +41,7 @@ pub struct TilePart {
 }
 
 impl Model for TilePart {
-    ghost use Rattle.m3_machine.specs.Parts.{Tile};
+    ghost use Rattle.m3_kernel.specs.Parts.{Tile};
     ghost use Rattle.m3_machine.specs.TileView.{tile_value};
 
     ghost Value = { Tile };

@@ -2,4 +2,14 @@
 #![tactic(auto)]
 
 #[cfg(test)]
-mod tests;
+mod ends;
+#[cfg(test)]
+mod memory;
+#[cfg(test)]
+mod replies;
+#[cfg(test)]
+mod runs;
+#[cfg(test)]
+mod sends;
+#[cfg(test)]
+mod switching;

@@ -1,7 +1,7 @@
 use Rattle.std.proofs.Common.{◌<◌, length, set, Option, None, sym, subst, ◌∙◌, arith}
 use Rattle.std.proofs.lemmas.List.{length-set, get_or_default}
 use Rattle.m3_base.specs.Context.{Context}
-use Rattle.m3_machine.specs.Parts.{Tile}
+use Rattle.m3_kernel.specs.Parts.{Tile}
 use Rattle.m3_machine.specs.Low.{LowIn}
 use Rattle.m3_machine.proofs.Opened.{seats_one}
 use Rattle.m3_machine.proofs.Seats.{low_at, low_left, low_set, first_low, AllLow}

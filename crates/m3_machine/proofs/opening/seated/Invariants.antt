@@ -1,5 +1,5 @@
 use Rattle.std.proofs.Common.{◌≡◌, length, map, drop}
-use Rattle.m3_machine.specs.Homes.{value_of}
+use Rattle.m3_kernel.specs.Homes.{value_of}
 use Rattle.m3_machine.specs.Low.{AreLow}
 use Rattle.m3_machine.specs.Machine.{empty_tiles}
 use Rattle.m3_machine.specs.Seated.{seated_tiles}

@@ -1,7 +1,7 @@
 use Rattle.std.proofs.Common.{◌≡◌, ℕ, List, [], ◌∷◌, ◌++◌, min, is_none, ◌∙◌, ap}
 use Rattle.m3_base.specs.declared.journal.AuditLine.{AuditLine}
 use Rattle.m3_machine.specs.Links.{lists_in}
-use Rattle.m3_machine.specs.Parts.{Tile}
+use Rattle.m3_kernel.specs.Parts.{Tile}
 use Rattle.m3_machine.specs.Next.{tile_lines, next_take}
 use Rattle.m3_machine.specs.Closing.{flights}
 use Rattle.m3_machine.specs.Whole.{Whole}

@@ -4,7 +4,7 @@ use Rattle.m3_base.specs.declared.event.Event.{Event}
 use Rattle.m3_base.specs.declared.event.Entry.{Entry}
 use Rattle.m3_machine.specs.TileView.{aim_at}
 use Rattle.m3_machine.specs.Links.{lists_in}
-use Rattle.m3_machine.specs.Parcels.{parcels_of, out_of}
+use Rattle.m3_kernel.specs.Parcels.{parcels_of, out_of}
 use Rattle.m3_machine.specs.Whole.{Whole, entry, out_links}
 use Rattle.m3_machine.proofs.Commanding.{has_room, low_did, one_more, made_on}
 use Rattle.m3_machine.proofs.machine.Machine.command.Goals as goal

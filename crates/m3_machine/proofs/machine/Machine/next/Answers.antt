@@ -1,6 +1,6 @@
 use Rattle.std.proofs.Common.{◌∙◌, sym, ap}
 use Rattle.m3_machine.specs.Links.{lists_in}
-use Rattle.m3_machine.specs.Parcels.{parcel_of}
+use Rattle.m3_kernel.specs.Parcels.{parcel_of}
 use Rattle.m3_machine.specs.Next.{next_take}
 use Rattle.m3_machine.specs.Whole.{Whole}
 use Rattle.m3_machine.proofs.Nexts.{next_mapped}

@@ -1,5 +1,5 @@
 use Rattle.std.proofs.Common.{◌≡◌, ◌∙◌, []}
-use Rattle.m3_machine.specs.Machine.{site_of}
+use Rattle.m3_kernel.specs.Sites.{site_of}
 use Rattle.m3_machine.specs.Whole.{site, machine_of, opened}
 use Rattle.m3_machine.specs.Links.{lists_in}
 use Rattle.m3_machine.proofs.Opened.{machine_opened}

@@ -3,7 +3,7 @@ use Rattle.m3_base.specs.declared.event.Event.{Event}
 use Rattle.m3_base.specs.declared.event.Entry.{Entry}
 use Rattle.m3_core.specs.declared.parcel.Parcel.{Parcel as CodeParcel}
 use Rattle.m3_machine.specs.Links.{place, lists_in, list_at, popped, first, HasRoom}
-use Rattle.m3_machine.specs.Parcels.{parcels_of, out_of}
+use Rattle.m3_kernel.specs.Parcels.{parcels_of, out_of}
 use Rattle.m3_machine.specs.Whole.{Whole, entry, out_links, HasFront}
 use Rattle.m3_machine.proofs.Commanding.{one_more}
 use Rattle.m3_machine.proofs.Takings.{data_room, low_took, named_front, took_on}

@@ -1,6 +1,6 @@
 use Rattle.std.proofs.Common.{◌≡◌, drop, []}
-use Rattle.m3_machine.specs.Machine.{with_homes, site_of}
-use Rattle.m3_machine.proofs.site.Site.new.Given as goal
+use Rattle.m3_kernel.specs.Sites.{with_homes, site_of}
+use Rattle.m3_kernel.proofs.site.Site.new.Given as goal
 
 abbrev pub invariant-loop-line : goal.invariant-loop-line
 invariant-loop-line l = with_homes [] l.site (drop l.line-index l.lines) ≡ site_of l.fn.memory [] l.fn.lines

@@ -6,9 +6,9 @@ use Rattle.std.proofs.lemmas.Bool.{cases_eq, cases_lt}
 use Rattle.std.proofs.lemmas.Bool.Decides.{nat_tests}
 use Rattle.m3_base.specs.Keyed as keyed
 use Rattle.m3_base.specs.State.{same_act}
-use Rattle.m3_machine.specs.Parts.{Home, home_act}
-use Rattle.m3_machine.specs.declared.site.Home.{Home as CodeHome}
-use Rattle.m3_machine.specs.Homes.{value_of, home_tile, AreTiles}
+use Rattle.m3_kernel.specs.Parts.{Home, home_act}
+use Rattle.m3_kernel.specs.declared.site.Home.{Home as CodeHome}
+use Rattle.m3_kernel.specs.Homes.{value_of, home_tile, AreTiles}
 
 abbrev pub found : ℕ → List Home → Option Home
 found a xs = keyed.find home_act same_act a xs

@@ -1,7 +1,7 @@
 use Rattle.std.proofs.Common.{ap, map}
-use Rattle.m3_machine.specs.Homes.{value_of}
-use Rattle.m3_machine.proofs.Homes.{none_declared}
-use Rattle.m3_machine.proofs.site.Site.start.Goals as goal
+use Rattle.m3_kernel.specs.Homes.{value_of}
+use Rattle.m3_kernel.proofs.Homes.{none_declared}
+use Rattle.m3_kernel.proofs.site.Site.start.Goals as goal
 
 pub invariant_of-result : goal.invariant_of-result
 invariant_of-result c = none_declared _ _ (ap (map value_of) c.new.ensures.items) c.in_ok-tiles.ensures

@@ -1,7 +1,7 @@
 -- The homes of activities, in a list as declared and in a table by number.
 use Rattle.std.specs.Prelude.{◌≡◌, ℕ, List, [], length, Option, Some, None, slice_index_or}
-use Rattle.m3_machine.specs.declared.site.Home.{Home as CodeHome}
-use Rattle.m3_machine.specs.Parts.{Home, Site, home_act}
+use Rattle.m3_kernel.specs.declared.site.Home.{Home as CodeHome}
+use Rattle.m3_kernel.specs.Parts.{Home, Site, home_act}
 use Rattle.m3_base.specs.Keyed as keyed
 use Rattle.m3_base.specs.State.{same_act}
 

@@ -17,8 +17,8 @@ use Rattle.m3_base.specs.Grants.{form, make_refusal, new_grant, revoke_refusal, 
 use Rattle.m3_base.specs.Places.{target, joins, least_closing}
 use Rattle.m3_base.specs.Arrive.{Arrived}
 use Rattle.m3_base.specs.Fits.{arrive_fit}
-use Rattle.m3_machine.specs.Naming.{is_named}
-use Rattle.m3_machine.specs.Parts.{Site, tile_of, has_program, heard_of, Parcel, Data, Save, Saved, Restore, Yield, Closed, Away, Seating, Is_placed, Is_leaving, Is_resting, Is_coming, Seat, Kernel, Deed, says, is_idle, dropped, closed_out}
+use Rattle.m3_kernel.specs.Naming.{is_named}
+use Rattle.m3_kernel.specs.Parts.{Site, tile_of, has_program, heard_of, Parcel, Data, Save, Saved, Restore, Yield, Closed, Away, Seating, Is_placed, Is_leaving, Is_resting, Is_coming, Seat, Kernel, Deed, says, is_idle, dropped, closed_out}
 
 -- ---- seats
 

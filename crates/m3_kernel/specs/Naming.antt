@@ -5,7 +5,7 @@ use Rattle.m3_base.specs.declared.message.Message.{Message}
 use Rattle.m3_base.specs.declared.packet.Fresh.{Fresh}
 use Rattle.m3_base.specs.declared.packet.Packet.{Packet}
 use Rattle.m3_base.specs.Context.{Fetched, Endpoint, Free, Sends, Receives, Reaches, Context}
-use Rattle.m3_machine.specs.Parts.{Site, home_of}
+use Rattle.m3_kernel.specs.Parts.{Site, home_of}
 
 -- an activity of the setup
 abbrev pub is_home : Site → ℕ → Bool

@@ -1,11 +1,9 @@
 -- The code's parcels.
 use Rattle.std.specs.Prelude.{ℕ, List, [], ◌∷◌, Option, Some, None, map}
-use Rattle.m3_machine.specs.declared.links.Front.{Front}
-use Rattle.m3_base.specs.Flight.{name_of}
 use Rattle.m3_core.specs.declared.parcel.Emit.{Emit}
 use Rattle.m3_core.specs.declared.parcel.Heard.{Heard as CodeHeard}
 use Rattle.m3_core.specs.declared.parcel.Parcel.{Parcel as CodeParcel}
-use Rattle.m3_machine.specs.Parts.{Heard, Parcel, Data, Save, Saved, Restore, Yield, Closed}
+use Rattle.m3_kernel.specs.Parts.{Heard, Parcel, Data, Save, Saved, Restore, Yield, Closed}
 
 abbrev pub heard_in : Option CodeHeard → List Heard
 heard_in None = []
@@ -25,9 +23,3 @@ parcels_of links = map (λ ps. map parcel_of ps) links
 abbrev pub out_of : Option Emit → List (ℕ × Parcel)
 out_of None = []
 out_of (Some e) = (e.to, parcel_of e.parcel) ∷ []
-
--- what is at the front
-abbrev pub front_of : List CodeParcel → Front
-front_of [] = Front.Nothing
-front_of (CodeParcel.Data p ∷ ps) = Front.Data (name_of p)
-front_of (p ∷ ps) = Front.Other
