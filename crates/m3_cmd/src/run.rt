@@ -57,7 +57,7 @@ fn text_of(alloc: Global, script: Script) -> Result<Vec<u8>, StepRefusal>
 }
 
 /// Writes the bytes, and answers the status, or 4 where the sink failed.
-fn finish<K: Sink>(sink: &mut K, bytes: &[u8], status: u8) -> u8
+pub fn finish<K: Sink>(sink: &mut K, bytes: &[u8], status: u8) -> u8
     ensures written { result ≢ 4 → (result ≡ status) × Appends (K.written sink.old) (K.written sink.new) bytes.now }
     ensures fault { status ≢ 4 → result ≡ 4 → Rose (K.faults sink.old) (K.faults sink.new) × AppendsSome (K.written sink.old) (K.written sink.new) bytes.now }
 {
