@@ -1,10 +1,10 @@
 -- What the words `show` answer to bytes.
-use Rattle.std.specs.Prelude.{◌≡◌, ◌⊎◌, ℕ, ◌+◌, ◌<◌, ◌≤◌, List, [], ◌∷◌, ◌++◌, map, length, Option, codes, decimal, ⊤}
+use Rattle.std.specs.Prelude.{◌≡◌, ◌⊎◌, ℕ, ◌+◌, ◌<◌, ◌≤◌, List, [], ◌∷◌, ◌++◌, map, length, Option, Err, codes, decimal, ⊤}
 use Rattle.m3_base.specs.declared.packet.Packet.{Packet}
 use Rattle.m3_base.specs.Causes.{Appends}
 use Rattle.m3_text.specs.Printing.{line_text, text_of_lines}
 use Rattle.m3_journal.specs.Packets.{packet_words}
-use Rattle.m3_wire.specs.Grammar.{Refuses, TakesNone}
+use Rattle.m3_wire.specs.Grammar.{IsFirst, IsRead, Refuses, TakesNone}
 use Rattle.m3_wire.specs.Packets.{IsPacket, packet_part}
 use Rattle.m3_wire.specs.declared.refusal.WireRefusal.{WireRefusal}
 use Rattle.m3_cmd.specs.Statuses.{most_bytes}
@@ -90,6 +90,18 @@ IsNamed (ShowRefusal.Bad before refusal) = before + place_of refusal ≤ most_by
 abbrev pub IsRefusalLine : ShowRefusal → List ℕ → Type 0
 IsRefusalLine ShowRefusal.NoMemory text = ⊥
 IsRefusalLine (ShowRefusal.Bad before refusal) text = text ≡ bad_byte_line before refusal
+
+-- the first n bytes are a packet, and its line is put
+pub record IsNext (old new rest : List ℕ) (n : ℕ) : Type 0 where
+  pub packet : Packet
+  pub first : IsFirst IsPacket rest packet n
+  pub again : (q : Packet) (text more : List ℕ) → IsPacket q text → rest ≡ text ++ more → ◌≡◌ {A = Packet × ℕ} (packet, n) (q, length text)
+  pub put : new ≡ old ++ (packet_line packet ++ 10 ∷ [])
+
+-- no packet begins the bytes, and the refusal says why, unless memory ran out
+pub record IsNone (rest : List ℕ) (e : WireRefusal) : Type 0 where
+  pub refuses : Refuses IsPacket packet_part rest e
+  pub never : (q : Packet) (text more : List ℕ) → IsPacket q text → rest ≡ text ++ more → IsRead {X = Packet × ℕ} (Err e) (q, length text)
 
 -- why bytes aren't shown
 abbrev pub IsWhy : List ℕ → ShowRefusal → Type 0

@@ -4,7 +4,7 @@ ghost use Rattle.std.specs.Prelude.{◌≡◌, ◌≢◌, ◌+◌, ◌<◌, ◌�
 ghost use Rattle.m3_base.specs.Causes.{Rose};
 ghost use Rattle.m3_cmd.specs.declared.show.ShowRefusal.TheVariants as ShowRefusal;
 ghost use Rattle.m3_cmd.specs.Statuses.{IsOneOf, WritesSome, most_bytes};
-ghost use Rattle.m3_cmd.specs.Show.{AreNoPackets, ArePackets, IsBadByte, IsNamed, IsRefusalLine, IsShowAnswer, IsShown, IsWhy, WritesAll, bad_byte_line, kind_word, packet_line, place_of, refused_after};
+ghost use Rattle.m3_cmd.specs.Show.{AreNoPackets, ArePackets, IsBadByte, IsNamed, IsNext, IsNone, IsRefusalLine, IsShowAnswer, IsShown, IsWhy, WritesAll, bad_byte_line, kind_word, packet_line, place_of, refused_after};
 
 use crate::run::finish;
 use m3_base::packet::Packet;
@@ -23,14 +23,6 @@ pub enum ShowRefusal {
     NoMemory,
 }
 
-impl From<AllocError> for ShowRefusal {
-    ghost from_gives = { λ _ e. e ≡ ShowRefusal.NoMemory };
-
-    fn from(_error: AllocError) -> ShowRefusal {
-        ShowRefusal::NoMemory
-    }
-}
-
 fn put_line(out: &mut String, packet: &Packet) -> Result<(), AllocError>
     ensures { OnOk result (string_bytes out.new ≡ string_bytes out.old ++ (packet_line packet.now ++ 10 ∷ [])) }
 {
@@ -47,6 +39,18 @@ fn refused_after(before: usize, refusal: WireRefusal) -> ShowRefusal
     }
 }
 
+/// Puts the line of the packet in the first bytes, and tells how many they are.
+fn put_next(alloc: Global, out: &mut String, rest: &[u8]) -> Result<usize, WireRefusal>
+    ensures next { IfOk result (λ n. IsNext (string_bytes out.old) (string_bytes out.new) rest.now n) }
+    ensures refused { IfErr result (λ e. IsNone rest.now e) }
+{
+    let (packet, len) = decode_packet(alloc, rest)?;
+    match put_line(out, &packet) {
+        Ok(()) => Ok(len),
+        Err(_) => Err(WireRefusal::NoMemory),
+    }
+}
+
 /// A line for each of the packets whose spellings, one after the other, are these bytes.
 fn lines_of(alloc: Global, bytes: &[u8]) -> Result<String, ShowRefusal>
     ensures shown { IfOk result (λ s. IsShown bytes.now (string_bytes s)) }
@@ -55,11 +59,8 @@ fn lines_of(alloc: Global, bytes: &[u8]) -> Result<String, ShowRefusal>
     let mut out = String::new(alloc);
     let mut rest = bytes;
     while !rest.is_empty() {
-        match decode_packet(alloc, rest) {
-            Ok((packet, len)) => {
-                put_line(&mut out, &packet)?;
-                rest = &rest[len..];
-            }
+        match put_next(alloc, &mut out, rest) {
+            Ok(len) => rest = &rest[len..],
             Err(refusal) => return Err(refused_after(bytes.len() - rest.len(), refusal)),
         }
     }
