@@ -41,9 +41,9 @@ Again rest p n = (q : Packet) (text more : List ℕ) → IsPacket q text → res
 tail_of : (rest : List ℕ) (p : Packet) (n : ℕ) → 0 < length rest → Again rest p n → (qs : List Packet) → AreSpelled qs rest → (rs : List Packet) × AreSpelled rs (drop n rest)
 tail_of rest p n some again [] s = absurd (omega (arith, ap length s))
 tail_of rest p n some again (q ∷ qs) s =
-  let same : n ≡ length s.0 = ap (λ (x : Packet × ℕ). x.1) (again q s.0 s.1 s.3 s.2) in
-  let cut : drop n rest ≡ s.1 = ap (drop n) s.2 ∙ drop_at s.0 s.1 n (sym same) in
-  (qs, subst (AreSpelled qs) (sym cut) s.4)
+    let same : n ≡ length s.0 = ap (λ (x : Packet × ℕ). x.1) (again q s.0 s.1 s.3 s.2) in
+    let cut : drop n rest ≡ s.1 = ap (drop n) s.2 ∙ drop_at s.0 s.1 n (sym same) in
+    (qs, subst (AreSpelled qs) (sym cut) s.4)
 
 pub shows_more : (bytes out rest out' : List ℕ) (p : Packet) (n : ℕ) → Shows bytes out rest → 0 < length rest → IsFirst IsPacket rest p n → Again rest p n → out' ≡ out ++ (packet_line p ++ 10 ∷ [])
     → Shows bytes out' (drop n rest)
@@ -131,7 +131,7 @@ place_within bytes before e r = omega (arith, place_small r.rest e r.refuses, r.
 
 pub next : (bytes out rest out' : List ℕ) (n : ℕ) → Shows bytes out rest → 0 < length rest → IsNext out out' rest n → Shows bytes out' (take (length rest - n) (drop n rest))
 next bytes out rest out' n s some x =
-  subst (Shows bytes out') (sym (take_all (length rest - n) (drop n rest) (omega (arith, length-drop n rest)))) (shows_more bytes out rest out' x.packet n s some x.first x.again x.put)
+    subst (Shows bytes out') (sym (take_all (length rest - n) (drop n rest) (omega (arith, length-drop n rest)))) (shows_more bytes out rest out' x.packet n s some x.first x.again x.put)
 
 pub next_within : (out rest out' : List ℕ) (n : ℕ) → IsNext out out' rest n → (0 < n) × (n ≤ length rest)
 next_within out rest out' n x = (takes_some rest x.packet n x.first, x.first.0)
@@ -140,4 +140,4 @@ next_within out rest out' n x = (takes_some rest x.packet n x.first, x.first.0)
 pub answers : (bytes : List ℕ) (e : ShowRefusal) (old new : Option (List ℕ)) → IsWhy bytes e → WritesSome (IsRefusalLine e) old new → WritesSome (IsShowAnswer bytes) old new
 answers bytes ShowRefusal.NoMemory old new w s = absurd s.output
 answers bytes (ShowRefusal.Bad before refusal) old new w s =
-  record { text = s.text; output = inr (w.0, record { before = before; refusal = refusal; refused = w.1; is_text = s.output }); part = s.part }
+    record { text = s.text; output = inr (w.0, record { before = before; refusal = refusal; refused = w.1; is_text = s.output }); part = s.part }

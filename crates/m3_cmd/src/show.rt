@@ -94,11 +94,7 @@ fn kind_word(refusal: WireRefusal) -> &'static str
 }
 
 /// The line that names the refused byte, where so many bytes stand before those that are refused.
-fn bad_byte_line(
-    alloc: Global,
-    before: usize,
-    refusal: WireRefusal,
-) -> Result<String, AllocError>
+fn bad_byte_line(alloc: Global, before: usize, refusal: WireRefusal) -> Result<String, AllocError>
     requires { before + place_of refusal ≤ most_bytes }
     ensures { IfOk result (λ s. string_bytes s ≡ bad_byte_line before refusal) }
 {

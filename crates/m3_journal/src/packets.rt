@@ -92,12 +92,7 @@ fn put_message(
     put_content(out, message)
 }
 
-fn put_credit(
-    out: &mut String,
-    id: FlightId,
-    to: ActId,
-    grant: GrantId,
-) -> Result<(), AllocError>
+fn put_credit(out: &mut String, id: FlightId, to: ActId, grant: GrantId) -> Result<(), AllocError>
     ensures { OnOk result (string_bytes out.new ≡ string_bytes out.old ++ line_text (packet_words (Packet.Credit id to grant))) }
 {
     let to = to.number();

@@ -47,16 +47,16 @@ refusal_known Refusal.BadReplyEndpoint = refl
 
 refusal_of : (c : ℕ) (x : Refusal) → code_of_refusal c ≡ Some x → c ≡ refusal_code x
 refusal_of c x e =
-  link refusal_code c 1 Refusal.NoEndpoint x _ refl (
-  link refusal_code c 2 Refusal.NoCredits x _ refl (
-  link refusal_code c 3 Refusal.TooLarge x _ refl (
-  link refusal_code c 4 Refusal.Revoked x _ refl (
-  link refusal_code c 5 Refusal.Full x _ refl (
-  link refusal_code c 6 Refusal.OutOfRange x _ refl (
-  link refusal_code c 7 Refusal.NoPermission x _ refl (
-  link refusal_code c 8 Refusal.NoReplyWanted x _ refl (
-  link refusal_code c 9 Refusal.NoSuchToken x _ refl (
-  link refusal_code c 10 Refusal.BadReplyEndpoint x None refl (λ f. absurd cc)))))))))) e
+    link refusal_code c 1 Refusal.NoEndpoint x _ refl (
+    link refusal_code c 2 Refusal.NoCredits x _ refl (
+    link refusal_code c 3 Refusal.TooLarge x _ refl (
+    link refusal_code c 4 Refusal.Revoked x _ refl (
+    link refusal_code c 5 Refusal.Full x _ refl (
+    link refusal_code c 6 Refusal.OutOfRange x _ refl (
+    link refusal_code c 7 Refusal.NoPermission x _ refl (
+    link refusal_code c 8 Refusal.NoReplyWanted x _ refl (
+    link refusal_code c 9 Refusal.NoSuchToken x _ refl (
+    link refusal_code c 10 Refusal.BadReplyEndpoint x None refl (λ f. absurd cc)))))))))) e
 
 pub refusal_exact : Exact (coded code_of_refusal) Any (λ y. refusal_code y ∷ [])
 refusal_exact = code_exact code_of_refusal refusal_code refusal_known refusal_of Refusal.Full
@@ -68,7 +68,7 @@ perm_known Perm.Rw = refl
 
 perm_back : (c : ℕ) (x : Perm) → perm_of c ≡ Some x → c ≡ perm_code x
 perm_back c x e =
-  link perm_code c 1 Perm.R x _ refl (link perm_code c 2 Perm.W x _ refl (link perm_code c 3 Perm.Rw x None refl (λ f. absurd cc))) e
+    link perm_code c 1 Perm.R x _ refl (link perm_code c 2 Perm.W x _ refl (link perm_code c 3 Perm.Rw x None refl (λ f. absurd cc))) e
 
 pub perm_exact : Exact (coded perm_of) Any (λ y. perm_code y ∷ [])
 perm_exact = code_exact perm_of perm_code perm_known perm_back Perm.R
@@ -93,13 +93,13 @@ kind_known Kind.Close = refl
 
 kind_back : (c : ℕ) (x : Kind) → kind_of c ≡ Some x → c ≡ kind_code x
 kind_back c x e =
-  link kind_code c 1 Kind.Message x _ refl (
-  link kind_code c 2 Kind.Credit x _ refl (
-  link kind_code c 3 Kind.Read x _ refl (
-  link kind_code c 4 Kind.Write x _ refl (
-  link kind_code c 5 Kind.Answer x _ refl (
-  link kind_code c 6 Kind.Install x _ refl (
-  link kind_code c 7 Kind.Close x None refl (λ f. absurd cc))))))) e
+    link kind_code c 1 Kind.Message x _ refl (
+    link kind_code c 2 Kind.Credit x _ refl (
+    link kind_code c 3 Kind.Read x _ refl (
+    link kind_code c 4 Kind.Write x _ refl (
+    link kind_code c 5 Kind.Answer x _ refl (
+    link kind_code c 6 Kind.Install x _ refl (
+    link kind_code c 7 Kind.Close x None refl (λ f. absurd cc))))))) e
 
 pub kind_exact : Exact (coded kind_of) Any (λ y. kind_code y ∷ [])
 kind_exact = code_exact kind_of kind_code kind_known kind_back Kind.Close
@@ -120,11 +120,11 @@ answer_known AnswerForm.Refused = refl
 
 answer_back : (c : ℕ) (x : AnswerForm) → answer_form_of c ≡ Some x → c ≡ answer_code x
 answer_back c x e =
-  link answer_code c 0 AnswerForm.Sent x _ refl (
-  link answer_code c 1 AnswerForm.Replied x _ refl (
-  link answer_code c 2 AnswerForm.Written x _ refl (
-  link answer_code c 3 AnswerForm.Bytes x _ refl (
-  link answer_code c 4 AnswerForm.Refused x None refl (λ f. absurd cc))))) e
+    link answer_code c 0 AnswerForm.Sent x _ refl (
+    link answer_code c 1 AnswerForm.Replied x _ refl (
+    link answer_code c 2 AnswerForm.Written x _ refl (
+    link answer_code c 3 AnswerForm.Bytes x _ refl (
+    link answer_code c 4 AnswerForm.Refused x None refl (λ f. absurd cc))))) e
 
 pub answer_form_exact : Exact (coded answer_form_of) Any (λ y. answer_code y ∷ [])
 answer_form_exact = code_exact answer_form_of answer_code answer_known answer_back AnswerForm.Sent
@@ -141,20 +141,20 @@ record_known RecordForm.Memory = refl
 
 record_back : (c : ℕ) (x : RecordForm) → record_form_of c ≡ Some x → c ≡ record_code x
 record_back c x e =
-  link record_code c 1 RecordForm.Send x _ refl (link record_code c 2 RecordForm.Receive x _ refl (link record_code c 3 RecordForm.Memory x None refl (λ f. absurd cc))) e
+    link record_code c 1 RecordForm.Send x _ refl (link record_code c 2 RecordForm.Receive x _ refl (link record_code c 3 RecordForm.Memory x None refl (λ f. absurd cc))) e
 
 pub record_form_exact : Exact (coded record_form_of) Any (λ y. record_code y ∷ [])
 record_form_exact = code_exact record_form_of record_code record_known record_back RecordForm.Send
 
 -- values of several kinds, each spelled by its kind's byte and its fields
 module _ {K P : Type 0} (pick : ℕ → Option K) (code : K → ℕ) (kind : Exact (coded pick) Any (λ k. code k ∷ [])) (body : K → List ℕ → Result (P × List ℕ) Fault)
-  (of : K × P → P) (is : (z : K × P) → of z ≡ z.1) (kind_in : P → K) (Good : P → Type 0) (fields spell : P → List ℕ) (whole : (p : P) → spell p ≡ code (kind_in p) ∷ fields p)
-  (sound : (k : K) → Sound (body k) (λ p. (kind_in p ≡ k) × Good p) fields) (again : (p : P) (rest : List ℕ) → Good p → body (kind_in p) (fields p ++ rest) ≡ Ok (p, rest)) where
+    (of : K × P → P) (is : (z : K × P) → of z ≡ z.1) (kind_in : P → K) (Good : P → Type 0) (fields spell : P → List ℕ) (whole : (p : P) → spell p ≡ code (kind_in p) ∷ fields p)
+    (sound : (k : K) → Sound (body k) (λ p. (kind_in p ≡ k) × Good p) fields) (again : (p : P) (rest : List ℕ) → Good p → body (kind_in p) (fields p ++ rest) ≡ Ok (p, rest)) where
   pub kinds_exact : Exact (mapped of (pair (coded pick) body)) Good spell
   unfolding mapped pair
   kinds_exact = record {
     sound = mapped_sound of (pair (coded pick) body) (λ z. Any z.0 × ((kind_in z.1 ≡ z.0) × Good z.1)) (λ z. (code z.0 ∷ []) ++ fields z.1) Good spell
-      (λ z g. rw (is z) g.1.1) (λ z g. rw (is z) (whole z.1 ∙ ap (λ (k : K). code k ∷ fields z.1) g.1.0))
-      (pair_sound (coded pick) Any (λ k. code k ∷ []) body (λ k p. (kind_in p ≡ k) × Good p) (λ k p. fields p) kind (λ k g. sound k));
+        (λ z g. rw (is z) g.1.1) (λ z g. rw (is z) (whole z.1 ∙ ap (λ (k : K). code k ∷ fields z.1) g.1.0))
+        (pair_sound (coded pick) Any (λ k. code k ∷ []) body (λ k p. (kind_in p ≡ k) × Good p) (λ k p. fields p) kind (λ k g. sound k));
     again = λ p rest g. rw (whole p, kind.again (kind_in p) (fields p ++ rest) tt, again p rest g, is (kind_in p, p)) refl;
   }

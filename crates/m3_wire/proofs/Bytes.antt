@@ -24,16 +24,16 @@ module _ (n : ℕ) where
   taken : (b : Bool) (bytes x rest : List ℕ) → ltb (length bytes) n ≡ b → cut b bytes ≡ Ok (x, rest) → IsLong n x × (bytes ≡ x ++ rest)
   taken true bytes x rest is e = absurd cc
   taken false bytes x rest is e =
-    let p : List ℕ × List ℕ = (take n bytes, drop n bytes) in let q : List ℕ × List ℕ = (x, rest) in
-    let P : List ℕ × List ℕ → Type 0 = λ r. IsLong n r.0 × (bytes ≡ r.0 ++ r.1) in
-    subst P (ok_same p q e) (omega (arith, length-take n bytes, ltb-false _ _ is), sym (take-append-drop n bytes))
+      let p : List ℕ × List ℕ = (take n bytes, drop n bytes) in let q : List ℕ × List ℕ = (x, rest) in
+      let P : List ℕ × List ℕ → Type 0 = λ r. IsLong n r.0 × (bytes ≡ r.0 ++ r.1) in
+      subst P (ok_same p q e) (omega (arith, length-take n bytes, ltb-false _ _ is), sym (take-append-drop n bytes))
 
   is_short : (b : Bool) (bytes : List ℕ) → ltb (length bytes) n ≡ b → cut b bytes ≡ Err Short → Cut (some_bytes n) (IsLong n) as_is bytes
   is_short true bytes is e =
-    let lt : length bytes < n = ltb-true _ _ is in
-    let more = replicate (n - length bytes) 0 in
-    let len : length more ≡ n - length bytes = length-replicate (n - length bytes) 0 in
-    record { opens = record { x = bytes ++ more; more = more; good = omega (arith, length-append bytes more); is = refl }; longer = omega arith }
+      let lt : length bytes < n = ltb-true _ _ is in
+      let more = replicate (n - length bytes) 0 in
+      let len : length more ≡ n - length bytes = length-replicate (n - length bytes) 0 in
+      record { opens = record { x = bytes ++ more; more = more; good = omega (arith, length-append bytes more); is = refl }; longer = omega arith }
   is_short false bytes is e = absurd cc
 
   pub bytes_exact : Exact (some_bytes n) (IsLong n) as_is
@@ -46,8 +46,8 @@ module _ (n : ℕ) where
       some = (replicate n 0, length-replicate n 0);
     };
     again = λ x rest t.
-      let long : ltb (length (x ++ rest)) n ≡ false = le-ltb _ _ (omega (arith, t, length-append x rest)) in
-      rw (long, take_at x rest n t, drop_at x rest n t) refl;
+        let long : ltb (length (x ++ rest)) n ≡ false = le-ltb _ _ (omega (arith, t, length-append x rest)) in
+        rw (long, take_at x rest n t, drop_at x rest n t) refl;
   }
 
 module _ {X : Type 0} (pick : ℕ → Option X) (Good : X → Type 0) (code : X → ℕ) (known : (x : X) → Good x → pick (code x) ≡ Some x) (of : (c : ℕ) (x : X) → pick c ≡ Some x → Good x × (c ≡ code x)) (x : X) (good : Good x) where
@@ -67,10 +67,10 @@ module _ {X : Type 0} (pick : ℕ → Option X) (Good : X → Type 0) (code : X 
     where
       go : (found : Option X) → pick c ≡ found → some found bytes ≡ Ok (y, rest) → Good y × (c ∷ bytes ≡ code y ∷ rest)
       go (Some z) is f =
-        let p : X × List ℕ = (z, bytes) in let q : X × List ℕ = (y, rest) in
-        let P : X × List ℕ → Type 0 = λ r. Good r.0 × (c ∷ bytes ≡ code r.0 ∷ r.1) in
-        let o = of c z is in
-        subst P (ok_same p q f) (o.0, ap (λ (k : ℕ). k ∷ bytes) o.1)
+          let p : X × List ℕ = (z, bytes) in let q : X × List ℕ = (y, rest) in
+          let P : X × List ℕ → Type 0 = λ r. Good r.0 × (c ∷ bytes ≡ code r.0 ∷ r.1) in
+          let o = of c z is in
+          subst P (ok_same p q f) (o.0, ap (λ (k : ℕ). k ∷ bytes) o.1)
       go None is f = absurd cc
 
   again : (y : X) (rest : List ℕ) → Good y → coded pick (one_byte y ++ rest) ≡ Ok (y, rest)

@@ -26,7 +26,7 @@ use Rattle.m3_wire.proofs.Results.{ok, ok_same}
 
 -- where the front of a reading is one kind of several
 module _ {K P X : Type 0} (kind_in : P → K) (k : K) (Good : P → Type 0) (fields : P → List ℕ) (f : X → P) {reader : List ℕ → Result (X × List ℕ) Fault} {GoodX : X → Type 0} {spell : X → List ℕ}
-  (is : (x : X) → kind_in (f x) ≡ k) (fits : (x : X) → GoodX x → Good (f x)) (same : (x : X) → GoodX x → fields (f x) ≡ spell x) (exact : Exact reader GoodX spell) where
+    (is : (x : X) → kind_in (f x) ≡ k) (fits : (x : X) → GoodX x → Good (f x)) (same : (x : X) → GoodX x → fields (f x) ≡ spell x) (exact : Exact reader GoodX spell) where
   pub of_kind : Sound (mapped f reader) (λ p. (kind_in p ≡ k) × Good p) fields
   of_kind = mapped_sound f reader GoodX spell (λ p. (kind_in p ≡ k) × Good p) fields (λ x g. (is x, fits x g)) same exact.sound
 
@@ -39,9 +39,9 @@ read_again f exact x rest g = rw (exact.again x rest g) refl
 whole_sound : {P : Type 0} (p : P) (Good : P → Type 0) (fields : P → List ℕ) → Good p → fields p ≡ [] → Sound (formats.whole p) Good fields
 whole_sound {P} p Good fields good is = record {
   takes = λ bytes x rest are e.
-    let a : P × List ℕ = (p, bytes) in let b : P × List ℕ = (x, rest) in
-    let T : P × List ℕ → Type 0 = λ r. Good r.0 × (bytes ≡ fields r.0 ++ r.1) in
-    subst T (ok_same a b e) (good, rw is refl);
+      let a : P × List ℕ = (p, bytes) in let b : P × List ℕ = (x, rest) in
+      let T : P × List ℕ → Type 0 = λ r. Good r.0 × (bytes ≡ fields r.0 ++ r.1) in
+      subst T (ok_same a b e) (good, rw is refl);
   short = λ bytes are e. absurd cc;
   bad = λ bytes left are e. absurd cc;
   some = (p, good);

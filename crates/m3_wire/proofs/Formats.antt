@@ -69,8 +69,8 @@ unfolding mapped
 made f g {reader = reader} {Good = Good} {spell = spell} {Good' = Good'} {spell' = spell'} fits same back turn exact = record {
   sound = mapped_sound f reader Good spell Good' spell' fits same exact.sound;
   again = λ y rest h.
-    let e : spell' y ≡ spell (g y) = ap spell' (sym (turn y h)) ∙ same (g y) (back y h) in
-    rw (e, exact.again (g y) rest (back y h), turn y h) refl;
+      let e : spell' y ≡ spell (g y) = ap spell' (sym (turn y h)) ∙ same (g y) (back y h) in
+      rw (e, exact.again (g y) rest (back y h), turn y h) refl;
 }
 
 abbrev id_pair : FlightId → ℕ × ℕ

@@ -31,8 +31,8 @@ pub bytes_are : (w : ℕ) (bytes : List ℕ) → w ≤ length bytes → IsBytes 
 bytes_are zero bytes h are = refl
 bytes_are (suc w) [] h are = absurd (omega arith)
 bytes_are (suc w) (b ∷ bytes) h are =
-  let byte : b < 256 = are 0 in
-  let later = little_from-later 0 w b bytes in
-  let head : (b + 256 * little_from 0 w bytes) % 256 ≡ b = omega arith in
-  let rest : (b + 256 * little_from 0 w bytes) / 256 ≡ little_from 0 w bytes = omega arith in
-  rw (later, head, rest) (ap (λ (t : List ℕ). b ∷ t) (bytes_are w bytes (omega arith) (λ i. are (suc i))))
+    let byte : b < 256 = are 0 in
+    let later = little_from-later 0 w b bytes in
+    let head : (b + 256 * little_from 0 w bytes) % 256 ≡ b = omega arith in
+    let rest : (b + 256 * little_from 0 w bytes) / 256 ≡ little_from 0 w bytes = omega arith in
+    rw (later, head, rest) (ap (λ (t : List ℕ). b ∷ t) (bytes_are w bytes (omega arith) (λ i. are (suc i))))

@@ -74,42 +74,45 @@ module _ (low high : ℕ) where
     where
       passed : goes low high (n + m * c) (256 * m) ≡ true → (n + m * c ≤ high) × ((low ≤ n + m * c) ⊎ (n + m * c + 256 * m ≤ high))
       passed test =
-        let e = both (leb (n + m * c) high) (leb low (n + m * c) || leb (n + m * c + 256 * m) high) test in
-        (leb-true _ _ e.0, elim (either (leb low (n + m * c)) (leb (n + m * c + 256 * m) high) e.1) [
-          | inl h ↦ inl (leb-true _ _ h)
-          | inr h ↦ inr (leb-true _ _ h)
-        ])
+          let e = both (leb (n + m * c) high) (leb low (n + m * c) || leb (n + m * c + 256 * m) high) test in (
+            leb-true _ _ e.0,
+            elim (either (leb low (n + m * c)) (leb (n + m * c + 256 * m) high) e.1) [
+              | inl h ↦ inl (leb-true _ _ h)
+              | inr h ↦ inr (leb-true _ _ h)
+            ],
+          )
 
   -- a number whose next byte is c
   next_byte : (j n m c x : ℕ) (text : List ℕ) → c < 256 → Tail j (n + m * c) (256 * m) x text → Tail (suc j) n m x (c ∷ text)
   next_byte j n m c x text byte t =
-    let head : (c + 256 * t.more) % 256 ≡ c = omega arith in
-    let rest : (c + 256 * t.more) / 256 ≡ t.more = omega arith in
-    record {
-      more = c + 256 * t.more;
-      text_is = rw (head, rest, t.text_is) refl;
-      x_is = omega (arith, t.x_is);
-      small = omega (arith, t.small, pow-suc 256 j);
-      least = t.least;
-      most = t.most;
-    }
+      let head : (c + 256 * t.more) % 256 ≡ c = omega arith in
+      let rest : (c + 256 * t.more) / 256 ≡ t.more = omega arith in
+      record {
+        more = c + 256 * t.more;
+        text_is = rw (head, rest, t.text_is) refl;
+        x_is = omega (arith, t.x_is);
+        small = omega (arith, t.small, pow-suc 256 j);
+        least = t.least;
+        most = t.most;
+      }
 
   byte_next : (j n m c x : ℕ) (text : List ℕ) → Tail (suc j) n m x (c ∷ text) → Tail j (n + m * c) (256 * m) x text
   byte_next j n m c x text t =
-    let head : c ≡ t.more % 256 = ap first t.text_is in
-    let split : t.more ≡ c + 256 * (t.more / 256) = omega arith in
-    record {
-      more = t.more / 256;
-      text_is = ap rest t.text_is;
-      x_is = t.x_is ∙ ap (λ y. n + m * y) split ∙ omega arith;
-      small = omega (arith, t.small, pow-suc 256 j);
-      least = t.least;
-      most = t.most;
-    }
+      let head : c ≡ t.more % 256 = ap first t.text_is in
+      let split : t.more ≡ c + 256 * (t.more / 256) = omega arith in
+      record {
+        more = t.more / 256;
+        text_is = ap rest t.text_is;
+        x_is = t.x_is ∙ ap (λ y. n + m * y) split ∙ omega arith;
+        small = omega (arith, t.small, pow-suc 256 j);
+        least = t.least;
+        most = t.most;
+      }
     where
       first : List ℕ → ℕ
       first [] = 0
       first (x ∷ xs) = x
+
       rest : List ℕ → List ℕ
       rest [] = []
       rest (x ∷ xs) = xs
@@ -117,13 +120,13 @@ module _ (low high : ℕ) where
   -- where the test fails, no number goes on
   closed : (j n m c x : ℕ) (text : List ℕ) → goes low high (n + m * c) (256 * m) ≡ false → Tail (suc j) n m x (c ∷ text) → ⊥
   closed j n m c x text test t =
-    let u = byte_next j n m c x text t in
-    let below : leb (n + m * c) high ≡ true = le-leb _ _ (omega (arith, u.x_is, u.most)) in
-    let yes : goes low high (n + m * c) (256 * m) ≡ true = rw below (elim (cases_lt (n + m * c) low) [
-      | inr here ↦ rw (le-leb _ _ here) refl
-      | inl less ↦ right (leb low (n + m * c)) (leb (n + m * c + 256 * m) high) (le-leb _ _ (reaches j n m c x text less u))
-    ]) in
-    let no : true ≡ false = sym yes ∙ test in absurd cc
+      let u = byte_next j n m c x text t in
+      let below : leb (n + m * c) high ≡ true = le-leb _ _ (omega (arith, u.x_is, u.most)) in
+      let yes : goes low high (n + m * c) (256 * m) ≡ true = rw below (elim (cases_lt (n + m * c) low) [
+        | inr here ↦ rw (le-leb _ _ here) refl
+        | inl less ↦ right (leb low (n + m * c)) (leb (n + m * c + 256 * m) high) (le-leb _ _ (reaches j n m c x text less u))
+      ]) in
+      let no : true ≡ false = sym yes ∙ test in absurd cc
     where
       reaches : (j n m c x : ℕ) (text : List ℕ) → n + m * c < low → Tail j (n + m * c) (256 * m) x text → n + m * c + 256 * m ≤ high
       reaches j n m c x text less u = go u.more u.x_is
@@ -156,8 +159,8 @@ module _ (low high : ℕ) where
       where
         go : (b : Bool) → goes low high (n + m * c) (256 * m) ≡ b → (text : List ℕ) × (c ∷ bytes ≡ text ++ rest) × Tail (suc j) n m x text
         go true test =
-          let t = (ih c test).takes bytes x rest (fits-rest c bytes are) (rw test at e) in
-          (c ∷ t.0, ap (λ (l : List ℕ). c ∷ l) t.1, next_byte j n m c x t.0 (are 0) t.2)
+            let t = (ih c test).takes bytes x rest (fits-rest c bytes are) (rw test at e) in
+            (c ∷ t.0, ap (λ (l : List ℕ). c ∷ l) t.1, next_byte j n m c x t.0 (are 0) t.2)
         go false test = let f = rw test at e in absurd cc
 
     again : (x : ℕ) (text rest : List ℕ) → Tail (suc j) n m x text → walk (suc j) n m (text ++ rest) ≡ Ok (x, rest)
@@ -174,8 +177,8 @@ module _ (low high : ℕ) where
       where
         go : (b : Bool) → goes low high (n + m * c) (256 * m) ≡ b → (x : ℕ) × (more : List ℕ) × (0 < length more) × Tail (suc j) n m x (c ∷ bytes ++ more)
         go true test =
-          let t = (ih c test).short bytes (fits-rest c bytes are) (rw test at e) in
-          (t.0, t.1, t.2, next_byte j n m c t.0 (bytes ++ t.1) (are 0) t.3)
+            let t = (ih c test).short bytes (fits-rest c bytes are) (rw test at e) in
+            (t.0, t.1, t.2, next_byte j n m c t.0 (bytes ++ t.1) (are 0) t.3)
         go false test = let f = rw test at e in absurd cc
 
     bad : (bytes : List ℕ) (left : ℕ) → IsBytes bytes → walk (suc j) n m bytes ≡ Err (Bad left) → Ends (suc j) n m bytes left
@@ -184,12 +187,12 @@ module _ (low high : ℕ) where
       where
         go : (b : Bool) → goes low high (n + m * c) (256 * m) ≡ b → Ends (suc j) n m (c ∷ bytes) left
         go true test =
-          let s = (ih c test).bad bytes left (fits-rest c bytes are) (rw test at e) in
-          (c ∷ s.0, s.1, s.2, ap (λ (t : List ℕ). c ∷ t) s.3, s.4, (s.5.0, s.5.1, next_byte j n m c s.5.0 (s.0 ++ s.5.1) (are 0) s.5.2), λ more. rw test (s.6 more))
+            let s = (ih c test).bad bytes left (fits-rest c bytes are) (rw test at e) in
+            (c ∷ s.0, s.1, s.2, ap (λ (t : List ℕ). c ∷ t) s.3, s.4, (s.5.0, s.5.1, next_byte j n m c s.5.0 (s.0 ++ s.5.1) (are 0) s.5.2), λ more. rw test (s.6 more))
         go false test =
-          let s = some (suc j) n m o in
-          let e' = rw test at e in
-          ([], c, bytes, refl, sym (left_same (ℕ × List ℕ) (suc (length bytes)) left e'), (s.0, s.1, s.2), λ more. rw test refl)
+            let s = some (suc j) n m o in
+            let e' = rw test at e in
+            ([], c, bytes, refl, sym (left_same (ℕ × List ℕ) (suc (length bytes)) left e'), (s.0, s.1, s.2), λ more. rw test refl)
 
   same_here : (n m x : ℕ) (more : ℕ) → x ≡ n + m * more → more < 1 → x ≡ n
   same_here n m x zero e lt = omega (arith, e)
@@ -201,13 +204,13 @@ module _ (low high : ℕ) where
   walked : (j n m : ℕ) → Open j n m → Walked j n m
   walked zero n m o = record {
     takes = λ bytes x rest are e. let p = pair_is (n, bytes) (x, rest) e in
-      ([], p.1, record { more = 0; text_is = refl; x_is = omega (arith, p.0); small = omega arith; least = ends zero n m refl o p.0; most = omega (arith, p.0, o.fits) });
+        ([], p.1, record { more = 0; text_is = refl; x_is = omega (arith, p.0); small = omega arith; least = ends zero n m refl o p.0; most = omega (arith, p.0, o.fits) });
     again = λ x text rest t. rw (t.text_is, same_here n m x t.more t.x_is t.small) refl;
     short = λ bytes are e. absurd cc;
     bad = λ bytes left are e. absurd cc;
   }
   walked (suc j) n m o = let ih = λ (c : ℕ) (test : goes low high (n + m * c) (256 * m) ≡ true). walked j (n + m * c) (256 * m) (opens j n m c o test) in
-    record { takes = takes j n m o ih; again = again j n m o ih; short = short j n m o ih; bad = bad j n m o ih }
+      record { takes = takes j n m o ih; again = again j n m o ih; short = short j n m o ih; bad = bad j n m o ih }
 
 pub number_exact : (width low high : ℕ) → low ≤ 1 → low ≤ high → high < 256 ^ width → Exact (number width low high) (Within low high) (little_bytes width)
 unfolding number
@@ -216,7 +219,7 @@ number_exact width low high small le' fits =
       sound = record {
         takes = λ bytes x rest are is. let t = w.takes bytes x rest are is in let u = to x t.0 t.2 in (u.0, t.1 ∙ ap (λ (l : List ℕ). l ++ rest) u.1);
         short = λ bytes are is. let t = w.short bytes are is in let u = to t.0 (bytes ++ t.1) t.3 in
-          record { opens = record { x = t.0; more = t.1; good = u.0; is = sym u.1 }; longer = t.2 };
+            record { opens = record { x = t.0; more = t.1; good = u.0; is = sym u.1 }; longer = t.2 };
         bad = λ bytes left are is. let s = w.bad bytes left are is in let u = to s.5.0 (s.0 ++ s.5.1) s.5.2 in record {
           front = s.0;
           byte = s.1;
@@ -230,10 +233,10 @@ number_exact width low high small le' fits =
       };
       again = λ x rest g. w.again x (little_bytes width x) rest (record { more = x; text_is = sym (le_is width x); x_is = omega arith; small = omega (arith, g.1, fits); least = g.0; most = g.1 });
     }
-    where
-      reach : (low high : ℕ) → low ≤ 1 → low ≤ high → (low ≤ 0) ⊎ (0 + 1 ≤ high)
-      reach zero high small le' = inl (omega arith)
-      reach (suc l) high small le' = inr (omega arith)
+  where
+    reach : (low high : ℕ) → low ≤ 1 → low ≤ high → (low ≤ 0) ⊎ (0 + 1 ≤ high)
+    reach zero high small le' = inl (omega arith)
+    reach (suc l) high small le' = inr (omega arith)
 
-      to : (x : ℕ) (text : List ℕ) → Tail low high width 0 1 x text → Within low high x × (text ≡ little_bytes width x)
-      to x text t = let e : x ≡ t.more = omega (arith, t.x_is) in ((t.least, t.most), t.text_is ∙ le_is width t.more ∙ ap (little_bytes width) (sym e))
+    to : (x : ℕ) (text : List ℕ) → Tail low high width 0 1 x text → Within low high x × (text ≡ little_bytes width x)
+    to x text t = let e : x ≡ t.more = omega (arith, t.x_is) in ((t.least, t.most), t.text_is ∙ le_is width t.more ∙ ap (little_bytes width) (sym e))

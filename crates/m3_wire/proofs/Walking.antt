@@ -51,8 +51,8 @@ module _ (width low high : ℕ) (bytes : List ℕ) (value scale : ℕ) (i : ℕ)
   pub ends_bad : i < width → i < length bytes → Walks width low high bytes value scale i → goes low high next (256 * scale) ≡ false
       → number width low high bytes ≡ Err (Bad (length bytes - i))
   ends_bad lt some w test =
-    let n : suc (length (drop (i + 1) bytes)) ≡ length bytes - i = omega (arith, length-drop (i + 1) bytes) in
-    sym (rw (test, n) at (unfold_step lt some w))
+      let n : suc (length (drop (i + 1) bytes)) ≡ length bytes - i = omega (arith, length-drop (i + 1) bytes) in
+      sym (rw (test, n) at (unfold_step lt some w))
 
   pub more : i < width → i < length bytes → Walks width low high bytes value scale i → next < 256 * scale → goes low high next (256 * scale) ≡ true
       → Walks width low high bytes next (256 * scale) (i + 1)
@@ -70,17 +70,17 @@ module _ (width low high : ℕ) (bytes : List ℕ) (value scale : ℕ) (i : ℕ)
 
   pub ends : width ≤ i → i ≤ width → Walks width low high bytes value scale i → number width low high bytes ≡ Ok (value, drop width bytes)
   ends le ge w =
-    let k : width - i ≡ 0 = omega arith in
-    let e : i ≡ width = omega arith in
-    let here : number_from low high 0 value scale (drop i bytes) ≡ number width low high bytes = rw k at w.walk in
-    sym here ∙ ap (λ k. number_from low high 0 value scale (drop k bytes)) e
+      let k : width - i ≡ 0 = omega arith in
+      let e : i ≡ width = omega arith in
+      let here : number_from low high 0 value scale (drop i bytes) ≡ number width low high bytes = rw k at w.walk in
+      sym here ∙ ap (λ k. number_from low high 0 value scale (drop k bytes)) e
 
 -- where as many bytes are there, byteorder's number is the one
 pub reads_fast : (width low high : ℕ) (bytes : List ℕ) (n : ℕ) → low ≤ 1 → high < 256 ^ width → width ≤ length bytes → IsBytes bytes → n ≡ little_number width bytes → low ≤ n → n ≤ high
     → number width low high bytes ≡ Ok (n, drop width bytes)
 reads_fast width low high bytes n small fits long are is least most =
-  let e : bytes ≡ little_bytes width n ++ drop width bytes = bytes_are width bytes long are ∙ ap (λ (l : List ℕ). l ++ drop width bytes) (le_is width (little_number width bytes) ∙ ap (little_bytes width) (sym is)) in
-  ap (number width low high) e ∙ (number_exact width low high small (omega arith) fits).again n (drop width bytes) (least, most)
+    let e : bytes ≡ little_bytes width n ++ drop width bytes = bytes_are width bytes long are ∙ ap (λ (l : List ℕ). l ++ drop width bytes) (le_is width (little_number width bytes) ∙ ap (little_bytes width) (sym is)) in
+    ap (number width low high) e ∙ (number_exact width low high small (omega arith) fits).again n (drop width bytes) (least, most)
 
 -- a walk that came to its end is in the range
 pub in_range : (width low high : ℕ) (bytes : List ℕ) (value scale i : ℕ) → width ≤ i → i ≤ width → high < 256 ^ width → Walks width low high bytes value scale i → low ≤ value

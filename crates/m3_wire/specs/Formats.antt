@@ -51,15 +51,15 @@ HeaderFields = ℕ × (ℕ × (ℕ × (ℕ × (ℕ × (ℕ × (ℕ × (ℕ × (�
 
 abbrev pub header_fields : List ℕ → Result (HeaderFields × List ℕ) Fault
 header_fields =
-  pair (small 0 1) (λ flags.
-  pair (byte (is_reply_ep flags)) (λ reply_ep.
-  pair act (λ sender.
-  pair (small 0 0) (λ lane.
-  pair (number 2 0 512) (λ len.
-  pair (number 2 0 0) (λ reserved.
-  pair grant (λ send.
-  pair (number 4 (least_reply reply_ep) (most_reply reply_ep)) (λ reply.
-  pair count (λ n. label)))))))))
+    pair (small 0 1) (λ flags.
+    pair (byte (is_reply_ep flags)) (λ reply_ep.
+    pair act (λ sender.
+    pair (small 0 0) (λ lane.
+    pair (number 2 0 512) (λ len.
+    pair (number 2 0 0) (λ reserved.
+    pair grant (λ send.
+    pair (number 4 (least_reply reply_ep) (most_reply reply_ep)) (λ reply.
+    pair count (λ n. label)))))))))
 
 abbrev pub header_of : HeaderFields → Header
 header_of z = record {
@@ -90,40 +90,40 @@ whole x bytes = Ok (x, bytes)
 
 abbrev pub code_of_refusal : ℕ → Option Refusal
 code_of_refusal c =
-  if c == 1 then Some Refusal.NoEndpoint
-  else if c == 2 then Some Refusal.NoCredits
-  else if c == 3 then Some Refusal.TooLarge
-  else if c == 4 then Some Refusal.Revoked
-  else if c == 5 then Some Refusal.Full
-  else if c == 6 then Some Refusal.OutOfRange
-  else if c == 7 then Some Refusal.NoPermission
-  else if c == 8 then Some Refusal.NoReplyWanted
-  else if c == 9 then Some Refusal.NoSuchToken
-  else if c == 10 then Some Refusal.BadReplyEndpoint
-  else None
+    if c == 1 then Some Refusal.NoEndpoint
+    else if c == 2 then Some Refusal.NoCredits
+    else if c == 3 then Some Refusal.TooLarge
+    else if c == 4 then Some Refusal.Revoked
+    else if c == 5 then Some Refusal.Full
+    else if c == 6 then Some Refusal.OutOfRange
+    else if c == 7 then Some Refusal.NoPermission
+    else if c == 8 then Some Refusal.NoReplyWanted
+    else if c == 9 then Some Refusal.NoSuchToken
+    else if c == 10 then Some Refusal.BadReplyEndpoint
+    else None
 
 abbrev pub perm_of : ℕ → Option Perm
 perm_of c = if c == 1 then Some Perm.R else if c == 2 then Some Perm.W else if c == 3 then Some Perm.Rw else None
 
 abbrev pub kind_of : ℕ → Option Kind
 kind_of c =
-  if c == 1 then Some Kind.Message
-  else if c == 2 then Some Kind.Credit
-  else if c == 3 then Some Kind.Read
-  else if c == 4 then Some Kind.Write
-  else if c == 5 then Some Kind.Answer
-  else if c == 6 then Some Kind.Install
-  else if c == 7 then Some Kind.Close
-  else None
+    if c == 1 then Some Kind.Message
+    else if c == 2 then Some Kind.Credit
+    else if c == 3 then Some Kind.Read
+    else if c == 4 then Some Kind.Write
+    else if c == 5 then Some Kind.Answer
+    else if c == 6 then Some Kind.Install
+    else if c == 7 then Some Kind.Close
+    else None
 
 abbrev pub answer_form_of : ℕ → Option AnswerForm
 answer_form_of c =
-  if c == 0 then Some AnswerForm.Sent
-  else if c == 1 then Some AnswerForm.Replied
-  else if c == 2 then Some AnswerForm.Written
-  else if c == 3 then Some AnswerForm.Bytes
-  else if c == 4 then Some AnswerForm.Refused
-  else None
+    if c == 0 then Some AnswerForm.Sent
+    else if c == 1 then Some AnswerForm.Replied
+    else if c == 2 then Some AnswerForm.Written
+    else if c == 3 then Some AnswerForm.Bytes
+    else if c == 4 then Some AnswerForm.Refused
+    else None
 
 abbrev pub record_form_of : ℕ → Option RecordForm
 record_form_of c = if c == 1 then Some RecordForm.Send else if c == 2 then Some RecordForm.Receive else if c == 3 then Some RecordForm.Memory else None
@@ -152,7 +152,7 @@ memory_of z = Fresh.Memory z.0 z.1.0 z.1.1.0 z.1.1.1
 
 abbrev pub send_fields : List ℕ → Result ((ℕ × (ℕ × (ℕ × (ℕ × (ℕ × (ℕ × ℕ)))))) × List ℕ) Fault
 send_fields =
-  pair grant (λ g. pair act (λ to. pair ep (λ to_ep. pair grant (λ to_grant. pair label (λ l. pair (number 2 1 512) (λ size. small 1 32))))))
+    pair grant (λ g. pair act (λ to. pair ep (λ to_ep. pair grant (λ to_grant. pair label (λ l. pair (number 2 1 512) (λ size. small 1 32))))))
 
 abbrev pub receive_fields : List ℕ → Result ((ℕ × (ℕ × ℕ)) × List ℕ) Fault
 receive_fields = pair grant (λ g. pair (small 1 32) (λ slots. number 2 1 512))
@@ -160,7 +160,7 @@ receive_fields = pair grant (λ g. pair (small 1 32) (λ slots. number 2 1 512))
 -- the range lies inside the largest memory
 abbrev pub memory_fields : List ℕ → Result ((ℕ × (ℕ × (ℕ × Perm))) × List ℕ) Fault
 memory_fields =
-  pair grant (λ g. pair (number 4 0 (most_memory - 1)) (λ start. pair (number 4 1 (most_memory - start)) (λ len. coded perm_of)))
+    pair grant (λ g. pair (number 4 0 (most_memory - 1)) (λ start. pair (number 4 1 (most_memory - start)) (λ len. coded perm_of)))
 
 abbrev pub fresh_by : RecordForm → List ℕ → Result (Fresh × List ℕ) Fault
 fresh_by RecordForm.Send = mapped send_of send_fields

@@ -18,7 +18,7 @@ abbrev pub number_from : ℕ → ℕ → ℕ → ℕ → ℕ → List ℕ → Re
 number_from low high zero n m bytes = Ok (n, bytes)
 number_from low high (suc j) n m [] = Err Short
 number_from low high (suc j) n m (c ∷ bytes) =
-  if goes low high (n + m * c) (256 * m) then number_from low high j (n + m * c) (256 * m) bytes else Err (Bad (suc (length bytes)))
+    if goes low high (n + m * c) (256 * m) then number_from low high j (n + m * c) (256 * m) bytes else Err (Bad (suc (length bytes)))
 
 -- a number of so many bytes, the lowest first
 unfoldable pub number : ℕ → ℕ → ℕ → List ℕ → Result (ℕ × List ℕ) Fault

@@ -43,11 +43,7 @@ impl<'a> Input<'a> {
         let length = self.number(2, 0, 512)?;
         let _ = self.number(2, 0, 0)?;
         let send = self.number(4, 1, 4096)?;
-        let (least, most) = if reply_ep == 255 {
-            (0, 0)
-        } else {
-            (1, 4096)
-        };
+        let (least, most) = if reply_ep == 255 { (0, 0) } else { (1, 4096) };
         let reply = self.number(4, least, most)?;
         let number = self.count()?;
         let label = self.label()?;

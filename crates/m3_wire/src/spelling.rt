@@ -7,8 +7,8 @@ ghost use Rattle.m3_base.specs.declared.packet.Packet.TheVariants as Packet;
 ghost use Rattle.m3_wire.specs.Headers.{FitsHeader, header_bytes};
 ghost use Rattle.m3_wire.specs.Packets.{FitsAnswer, FitsPacket, id_bytes, counted_bytes, refusal_code, perm_code, answer_bytes, fresh_bytes, packet_bytes};
 
-use byteorder::{ByteOrder, LittleEndian};
 use crate::header::encode_header;
+use byteorder::{ByteOrder, LittleEndian};
 use m3_base::command::{Answer, Refusal};
 use m3_base::ids::{ActId, EpId, FlightId, GrantId};
 use m3_base::message::Message;
@@ -191,12 +191,7 @@ fn put_send(
     put_terms(out, label, size, limit)
 }
 
-fn put_receive(
-    out: &mut Vec<u8>,
-    grant: GrantId,
-    slots: u8,
-    size: u16,
-) -> Result<(), AllocError>
+fn put_receive(out: &mut Vec<u8>, grant: GrantId, slots: u8, size: u16) -> Result<(), AllocError>
     ensures { OnOk result (out.new.items ≡ out.old.items ++ fresh_bytes (Fresh.Receive grant slots size)) }
 {
     put_u8(out, 2)?;
@@ -274,12 +269,7 @@ fn put_sent(
     put_message(out, message)
 }
 
-fn put_credit(
-    out: &mut Vec<u8>,
-    id: FlightId,
-    to: ActId,
-    grant: GrantId,
-) -> Result<(), AllocError>
+fn put_credit(out: &mut Vec<u8>, id: FlightId, to: ActId, grant: GrantId) -> Result<(), AllocError>
     ensures { OnOk result (out.new.items ≡ out.old.items ++ packet_bytes (Packet.Credit id to grant)) }
 {
     put_u8(out, 2)?;

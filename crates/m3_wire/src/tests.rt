@@ -105,7 +105,10 @@ fn refused_headers(rt: HostRuntime) -> Result<(), AllocError> {
         assert_eq!(rt; decode_header(changed.as_slice()), Err(refusal));
     }
     for at in 0..28 {
-        assert_eq!(rt; decode_header(&HEADER[..at]), Err(WireRefusal::Short { at }));
+        assert_eq!(rt;
+            decode_header(&HEADER[..at]),
+            Err(WireRefusal::Short { at })
+        );
     }
     Ok(())
 }
@@ -132,7 +135,10 @@ fn packets(rt: HostRuntime) -> Result<(), AllocError> {
 fn cut_packets(rt: HostRuntime) -> Result<(), AllocError> {
     for bytes in PACKETS {
         for at in 0..bytes.len() {
-            assert_eq!(rt; refusal_of(rt.alloc(), &bytes[..at]), Some(WireRefusal::Short { at }));
+            assert_eq!(rt;
+                refusal_of(rt.alloc(), &bytes[..at]),
+                Some(WireRefusal::Short { at })
+            );
         }
     }
     Ok(())
@@ -142,7 +148,10 @@ fn cut_packets(rt: HostRuntime) -> Result<(), AllocError> {
 fn expect_first_bad(rt: &impl Abort, alloc: Global, bytes: &[u8], refusal: WireRefusal) {
     match place(refusal) {
         Some(at) if at < bytes.len() => {
-            assert_eq!(rt; refusal_of(alloc, &bytes[..at]), Some(WireRefusal::Short { at }));
+            assert_eq!(rt;
+                refusal_of(alloc, &bytes[..at]),
+                Some(WireRefusal::Short { at })
+            );
             assert_eq!(rt; refusal_of(alloc, &bytes[..at + 1]), Some(refusal));
         }
         Some(at) => assert_eq!(rt; refusal, WireRefusal::Short { at }),
@@ -191,21 +200,33 @@ fn refused_packets(rt: HostRuntime) -> Result<(), AllocError> {
         (b"\x09".as_slice(), WireRefusal::BadKind { at: 0 }),
         (b"\x00", WireRefusal::BadKind { at: 0 }),
         // a message's header has flags 2, and a reserved byte
-        (b"\x01\x01\x00\x01\x00\x00\x00\x02", WireRefusal::BadFlags { at: 7 }),
+        (
+            b"\x01\x01\x00\x01\x00\x00\x00\x02",
+            WireRefusal::BadFlags { at: 7 },
+        ),
         (
             b"\x01\x01\x00\x01\x00\x00\x00\x00\xff\x00\x00\x02\x00\x01",
             WireRefusal::BadReserved { at: 13 },
         ),
         // a reply that wants a reply
-        (b"\x01\x01\x00\x01\x00\x00\x00\x01\x0f", WireRefusal::BadField { at: 8 }),
+        (
+            b"\x01\x01\x00\x01\x00\x00\x00\x01\x0f",
+            WireRefusal::BadField { at: 8 },
+        ),
         // a reply endpoint without its grant
         (
             b"\x01\x01\x00\x01\x00\x00\x00\x00\x0f\x00\x00\x02\x00\x00\x00\x02\x00\x00\x00\x00\x00",
             WireRefusal::BadField { at: 20 },
         ),
         // grant 4,097, and grant 4,096
-        (b"\x02\x00\x01\x00\x00\x00\x00\x01\x10", WireRefusal::BadField { at: 8 }),
-        (b"\x02\x00\x01\x00\x00\x00\x00\x00\x10", WireRefusal::Short { at: 9 }),
+        (
+            b"\x02\x00\x01\x00\x00\x00\x00\x01\x10",
+            WireRefusal::BadField { at: 8 },
+        ),
+        (
+            b"\x02\x00\x01\x00\x00\x00\x00\x00\x10",
+            WireRefusal::Short { at: 9 },
+        ),
         // the kernel is no issuer of a credit
         (b"\x02\x40", WireRefusal::BadField { at: 1 }),
         // a place above memory, and a place from which one byte is too many
@@ -227,12 +248,27 @@ fn refused_packets(rt: HostRuntime) -> Result<(), AllocError> {
             WireRefusal::BadField { at: 15 },
         ),
         // a form and codes that there aren't
-        (b"\x05\x00\x01\x00\x00\x00\x05", WireRefusal::BadField { at: 6 }),
-        (b"\x05\x00\x01\x00\x00\x00\x04\x00", WireRefusal::BadField { at: 7 }),
-        (b"\x05\x00\x01\x00\x00\x00\x04\x0b", WireRefusal::BadField { at: 7 }),
-        (b"\x06\x01\x00\x00\x00\x00\x00\x04", WireRefusal::BadField { at: 7 }),
+        (
+            b"\x05\x00\x01\x00\x00\x00\x05",
+            WireRefusal::BadField { at: 6 },
+        ),
+        (
+            b"\x05\x00\x01\x00\x00\x00\x04\x00",
+            WireRefusal::BadField { at: 7 },
+        ),
+        (
+            b"\x05\x00\x01\x00\x00\x00\x04\x0b",
+            WireRefusal::BadField { at: 7 },
+        ),
+        (
+            b"\x06\x01\x00\x00\x00\x00\x00\x04",
+            WireRefusal::BadField { at: 7 },
+        ),
         // no slots, and no bytes in a slot
-        (b"\x06\x01\x00\x00\x00\x00\x00\x02\x01\x00\x00\x00\x00", WireRefusal::BadField { at: 12 }),
+        (
+            b"\x06\x01\x00\x00\x00\x00\x00\x02\x01\x00\x00\x00\x00",
+            WireRefusal::BadField { at: 12 },
+        ),
         (
             b"\x06\x01\x00\x00\x00\x00\x00\x02\x01\x00\x00\x00\x01\x00\x00",
             WireRefusal::BadField { at: 14 },

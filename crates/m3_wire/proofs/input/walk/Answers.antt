@@ -22,6 +22,8 @@ pub loop-i-preserved : goal.loop-i-preserved
 loop-i-preserved c = rw c.with_byte-value.ensures.value (more c.args.width c.args.low c.args.high c.args.bytes.now c.loop-i.value c.loop-i.scale c.loop-i.i c.loop-i-test.true c.if-i-bytes.false c.loop-i.invariant (omega (arith, c.with_byte-value.ensures.below, c.with_byte-value.ensures.value)) (rw (← c.with_byte-value.ensures.value, ← c.goes.ensures) c.if-not-goes.false))
 
 pub returns-clause-range : goal.returns-clause-range
-returns-clause-range c =
-    (in_range c.args.width c.args.low c.args.high c.args.bytes.now c.loop-i.value c.loop-i.scale c.loop-i.i c.loop-i-test.false c.loop-i.auto.i-end c.requires.high c.loop-i.invariant,
-      c.loop-i.invariant.fits, omega (arith, c.loop-i.invariant.inside, c.loop-i-test.false))
+returns-clause-range c = (
+  in_range c.args.width c.args.low c.args.high c.args.bytes.now c.loop-i.value c.loop-i.scale c.loop-i.i c.loop-i-test.false c.loop-i.auto.i-end c.requires.high c.loop-i.invariant,
+  c.loop-i.invariant.fits,
+  omega (arith, c.loop-i.invariant.inside, c.loop-i-test.false),
+)
