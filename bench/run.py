@@ -1,17 +1,18 @@
 #!/usr/bin/env python3
-"""Times the built program on a script of half a MiB and on one of a whole MiB.
+"""Times the built program on a script of half a MiB and on one of a whole MiB, and on packets of the same sizes.
 
     python3 bench/run.py [PROGRAM]
 
-PROGRAM is crates/m3x/out/m3x where it is left out (.ci/run builds it). Each script is run once and its whole output
-compared with the journal that this file works out for itself, and then five times against the clock, with the output
-thrown away. Printed are the best times, what they come to in bytes and events a second, and their ratio: the second
-script is twice as long, so a ratio near 2 is linear time.
+PROGRAM is crates/m3x/out/m3x where it is left out (.ci/run builds it). Each input is run or shown once and its whole
+output compared with the journal or the lines that this file works out for itself, and then five times against the
+clock, with the output thrown away. Printed are the best times, what they come to in bytes and in events or packets a
+second, and their ratio: the second input is twice as long, so a ratio near 2 is linear time.
 
 Commands that give credits back are no part of these scripts, so messages are a share of the events alone: each credit
 of each send endpoint is spent once, and spread evenly between events that are idle or refused.
 """
 import os
+import struct
 import subprocess
 import sys
 import time
@@ -152,8 +153,49 @@ def make(size):
     return script, made.text(audit_of(made, sends)), len(made.events)
 
 
-def run(program, script, stdout):
-    return subprocess.run([program, "run"], input=script, stdout=stdout, stderr=subprocess.PIPE)
+def packet(n):
+    """The n-th packet and its line; the kinds take turns."""
+    act, other, ep, grant, number = n % 64, (n + 7) % 64, n % 16, n % 4096 + 1, n + 1
+    name = f"{act}.{number}"
+    payload = bytes((n + i) % 256 for i in range(n % 65))
+    issued = struct.pack("<BI", act, number)
+    kind = n % 7
+    if kind == 0:
+        header = struct.pack("<BBBBHHIIIQ", 0, ep, act, 0, len(payload), 0, grant, grant, number, n)
+        to = struct.pack("<BBI", other, ep, grant)
+        line = f"message {name} to {other} ep {ep} grant {grant} send {grant} label {n} reply {ep} grant {grant}"
+        return b"\x01" + to + header + payload, f"{line} {payload.hex() or '-'}"
+    if kind == 1:
+        return b"\x02" + issued + struct.pack("<BI", other, grant), f"credit {name} to {other} grant {grant}"
+    if kind == 2:
+        return b"\x03" + issued + struct.pack("<IIH", grant, n, 64), f"read {name} grant {grant} place {n} len 64"
+    if kind == 3:
+        fields = struct.pack("<IIH", grant, n, len(payload))
+        return b"\x04" + issued + fields + payload, f"write {name} grant {grant} place {n} {payload.hex() or '-'}"
+    if kind == 4:
+        fields = struct.pack("<BH", 3, len(payload))
+        return b"\x05" + issued + fields + payload, f"answer {name} bytes {payload.hex() or '-'}"
+    at = struct.pack("<IBB", number, other, ep)
+    if kind == 5:
+        record = struct.pack("<BIBBIQHB", 1, grant, act, ep, grant, n, 64, 8)
+        line = f"install k.{number} to {other} ep {ep} send grant {grant} to {act} ep {ep} grant {grant}"
+        return b"\x06" + at + record, f"{line} label {n} size 64 credits 8"
+    return b"\x07" + at + struct.pack("<I", grant), f"close k.{number} to {other} ep {ep} grant {grant}"
+
+
+def make_packets(size):
+    """At most this many bytes of packets, their lines, and how many they are."""
+    data, lines = bytearray(), []
+    while True:
+        spelled, line = packet(len(lines))
+        if len(data) + len(spelled) > size:
+            return bytes(data), "\n".join([*lines, ""]).encode(), len(lines)
+        data += spelled
+        lines.append(line)
+
+
+def run(program, word, data, stdout):
+    return subprocess.run([program, word], input=data, stdout=stdout, stderr=subprocess.PIPE)
 
 
 def judge(ran, wanted):
@@ -167,14 +209,32 @@ def judge(ran, wanted):
     return f"line {at + 1} is {got[at:at + 1]} and should be {want[at:at + 1]}"
 
 
-def best(program, script):
+def best(program, word, data):
     """The least wall time of RUNS runs, in seconds."""
     times = []
     for _ in range(RUNS):
         begun = time.perf_counter()
-        run(program, script, subprocess.DEVNULL)
+        run(program, word, data, subprocess.DEVNULL)
         times.append(time.perf_counter() - begun)
     return min(times)
+
+
+def measure(program, word, make_input, what):
+    """Prints a line for each of the two sizes; whether the outputs were right."""
+    print(f"{word}\n{'input':>10}  {what:>8}  {'output':>10}  {'best of ' + str(RUNS):>10}  {'input/s':>10}  {what + '/s':>10}")
+    times = []
+    for size in (512 * KIB, 1024 * KIB):
+        data, wanted, count = make_input(size)
+        wrong = judge(run(program, word, data, subprocess.PIPE), wanted)
+        if wrong:
+            print(f"{word} on {len(data)} bytes: {wrong}", file=sys.stderr)
+            return False
+        least = best(program, word, data)
+        times.append(least)
+        rate = f"{len(data) / least / 1e6:.1f} MB"
+        print(f"{len(data):>10}  {count:>8}  {len(wanted):>10}  {least * 1000:>7.1f} ms  {rate:>10}  {count / least:>10.0f}")
+    print(f"ratio of the times: {times[1] / times[0]:.2f}")
+    return True
 
 
 def main(words):
@@ -182,20 +242,9 @@ def main(words):
     if not os.access(program, os.X_OK):
         print(f"{program} isn't built: .ci/run builds it", file=sys.stderr)
         return 2
-    print(f"{'input':>10}  {'events':>7}  {'output':>10}  {'best of ' + str(RUNS):>10}  {'input/s':>10}  {'events/s':>10}")
-    times = []
-    for size in (512 * KIB, 1024 * KIB):
-        script, wanted, events = make(size)
-        wrong = judge(run(program, script, subprocess.PIPE), wanted)
-        if wrong:
-            print(f"on the script of {len(script)} bytes: {wrong}", file=sys.stderr)
-            return 1
-        least = best(program, script)
-        times.append(least)
-        rate = f"{len(script) / least / 1e6:.1f} MB"
-        print(f"{len(script):>10}  {events:>7}  {len(wanted):>10}  {least * 1000:>7.1f} ms  {rate:>10}  {events / least:>10.0f}")
-    print(f"ratio of the times: {times[1] / times[0]:.2f}")
-    return 0
+    if measure(program, "run", make, "events") and measure(program, "show", make_packets, "packets"):
+        return 0
+    return 1
 
 
 if __name__ == "__main__":
