@@ -1,10 +1,10 @@
 -- Bytes as they stand, and bytes that stand for something, are read exactly.
-use Rattle.std.proofs.Common.{◌≡◌, ℕ, zero, suc, ◌+◌, ◌-◌, ◌<◌, ◌≤◌, Bool, true, false, cond, ltb, List, [], ◌∷◌, ◌++◌, length, take, drop, Result, Ok, Err, Option, Some, None, refl, sym, ap, subst, ◌∙◌, arith, replicate}
+use Rattle.std.proofs.Common.{◌≡◌, ℕ, suc, ◌-◌, ◌<◌, Bool, true, false, cond, ltb, List, [], ◌∷◌, ◌++◌, length, take, drop, Result, Ok, Err, Option, Some, None, refl, sym, ap, subst, arith, replicate}
 use Rattle.std.proofs.lemmas.Bool.{ltb-true, ltb-false, le-ltb}
 use Rattle.std.proofs.lemmas.List.{take-append-drop, length-take, length-append, take_at, drop_at, length-replicate}
 use Rattle.m3_wire.specs.Reading.{Fault, Short, Bad, some_bytes, coded, picked, byte, passing}
-use Rattle.m3_wire.proofs.Results.{ok, err, ok_same, err_same, left_same}
-use Rattle.m3_wire.proofs.Exact.{IsBytes, Opens, Cut, Stop, Sound, Exact}
+use Rattle.m3_wire.proofs.Results.{ok_same, err_same, left_same}
+use Rattle.m3_wire.proofs.Exact.{Opens, Cut, Stop, Exact}
 
 -- a list of this length
 abbrev pub IsLong : ℕ → List ℕ → Type 0

@@ -1,28 +1,26 @@
 -- The readers of packets are exact.
-use Rattle.std.proofs.Common.{◌≡◌, ℕ, zero, suc, ◌+◌, ◌-◌, ◌<◌, ◌≤◌, List, [], ◌∷◌, ◌++◌, length, drop, min, replicate, Result, Ok, Err, refl, sym, ap, subst, ◌∙◌, arith, lit<}
+use Rattle.std.proofs.Common.{◌≡◌, ℕ, ◌-◌, ◌<◌, ◌≤◌, List, [], ◌∷◌, ◌++◌, length, drop, replicate, Result, Ok, refl, sym, ap, subst, ◌∙◌, arith, lit<}
 use Rattle.std.proofs.lemmas.List.{length-replicate}
 use Rattle.byteorder.specs.Endian.{little_bytes}
 use Rattle.m3_base.specs.declared.command.Answer.{Answer}
-use Rattle.m3_base.specs.declared.command.Refusal.{Refusal}
 use Rattle.m3_base.specs.declared.ids.FlightId.{FlightId}
 use Rattle.m3_base.specs.declared.message.Header.{Header}
-use Rattle.m3_base.specs.declared.message.Message.{Message}
 use Rattle.m3_base.specs.declared.packet.Fresh.{Fresh}
 use Rattle.m3_base.specs.declared.packet.Packet.{Packet}
 use Rattle.m3_base.specs.declared.packet.Perm.{Perm}
 use Rattle.m3_wire.specs.declared.codes.Kind.{Kind}
 use Rattle.m3_wire.specs.declared.codes.AnswerForm.{AnswerForm}
 use Rattle.m3_wire.specs.declared.codes.RecordForm.{RecordForm}
-use Rattle.m3_wire.specs.Reading.{Fault, Short, Bad, number, coded, pair, mapped}
-use Rattle.m3_wire.specs.Headers.{Within, IsAct, IsGrant, IsLabel, FitsHeader, header_bytes}
+use Rattle.m3_wire.specs.Reading.{Fault, number, mapped}
+use Rattle.m3_wire.specs.Headers.{Within, IsAct, IsGrant, IsLabel, FitsHeader}
 use Rattle.m3_wire.specs.Packets
 use Rattle.m3_wire.specs.Formats as formats
-use Rattle.m3_wire.proofs.Exact.{IsBytes, Cut, Stop, Sound, Exact, mapped_sound}
+use Rattle.m3_wire.proofs.Exact.{Sound, Exact, mapped_sound}
 use Rattle.m3_wire.proofs.Bytes.{IsLong, bytes_exact}
 use Rattle.m3_wire.proofs.Numbers.{number_exact}
-use Rattle.m3_wire.proofs.Formats.{after, made, small_exact, act_exact, ep_exact, grant_exact, count_exact, label_exact, act_id_exact, kernel_id_exact, header_exact, counted_exact}
+use Rattle.m3_wire.proofs.Formats.{after, small_exact, act_exact, ep_exact, grant_exact, label_exact, act_id_exact, kernel_id_exact, header_exact, counted_exact}
 use Rattle.m3_wire.proofs.ByKind.{Any, kind_exact, answer_form_exact, record_form_exact, refusal_exact, perm_exact, kind_code, answer_code, record_code, kinds_exact}
-use Rattle.m3_wire.proofs.Results.{ok, ok_same}
+use Rattle.m3_wire.proofs.Results.{ok_same}
 
 -- where the front of a reading is one kind of several
 module _ {K P X : Type 0} (kind_in : P → K) (k : K) (Good : P → Type 0) (fields : P → List ℕ) (f : X → P) {reader : List ℕ → Result (X × List ℕ) Fault} {GoodX : X → Type 0} {spell : X → List ℕ}

@@ -1,10 +1,10 @@
 -- What an exact reader says of decoding.
-use Rattle.std.proofs.Common.{◌≡◌, ◌≢◌, ℕ, zero, suc, ◌+◌, ◌-◌, ◌<◌, ◌≤◌, List, [], ◌∷◌, ◌++◌, length, take, Result, Ok, Err, refl, sym, ap, subst, ◌∙◌, arith, append_assoc, length-append}
+use Rattle.std.proofs.Common.{◌≡◌, ℕ, suc, ◌+◌, ◌-◌, ◌<◌, List, [], ◌∷◌, ◌++◌, length, take, Result, Ok, Err, refl, sym, ap, ◌∙◌, arith, append_assoc, length-append}
 use Rattle.std.proofs.lemmas.List.{take_at}
 use Rattle.m3_wire.specs.declared.refusal.Part.{Part}
 use Rattle.m3_wire.specs.declared.refusal.ReadError.{ReadError}
 use Rattle.m3_wire.specs.declared.refusal.WireRefusal.{WireRefusal}
-use Rattle.m3_wire.specs.Reading.{Fault, Short, Bad, Fails}
+use Rattle.m3_wire.specs.Reading.{Fault, Bad, Fails}
 use Rattle.m3_wire.specs.Grammar.{IsFirst, Begins, IsCut, StopsAt, Refuses, IsRead, TakesNone}
 use Rattle.m3_wire.specs.Refusals.{bad_at, refusal_of, IsRefusal}
 use Rattle.m3_wire.specs.Packets.{packet_part}

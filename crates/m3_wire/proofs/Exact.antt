@@ -1,5 +1,5 @@
 -- What it means that a reader is exact, and how readers are put together.
-use Rattle.std.proofs.Common.{◌≡◌, ℕ, zero, suc, ◌+◌, ◌<◌, ◌≤◌, List, [], ◌∷◌, ◌++◌, length, slice_index, Result, Ok, Err, refl, sym, ap, subst, ◌∙◌, arith, inl, inr, ◌⊎◌, append_assoc, length-append}
+use Rattle.std.proofs.Common.{◌≡◌, ℕ, suc, ◌<◌, ◌≤◌, List, [], ◌∷◌, ◌++◌, length, slice_index, Result, Ok, Err, refl, sym, ap, subst, ◌∙◌, arith, inl, inr, append_assoc, length-append}
 use Rattle.m3_wire.specs.Reading.{Fault, Short, Bad, ◌>>=◌, pair, mapped}
 use Rattle.m3_wire.proofs.Results.{ok_same, ok_or_err, bind_ok, bind_err}
 

@@ -1,26 +1,17 @@
 -- The readers of headers and packets are exact.
-use Rattle.std.proofs.Common.{◌≡◌, ℕ, zero, suc, ◌+◌, ◌-◌, ◌^◌, ◌<◌, ◌≤◌, Bool, true, false, cond, eqb, leb, ◌&&◌, ◌||◌, List, [], ◌∷◌, ◌++◌, length, Option, Some, None, Result, Ok, Err, refl, sym, ap, subst, ◌∙◌, arith, lit<, min, replicate, inl, inr, append_assoc}
+use Rattle.std.proofs.Common.{◌≡◌, ℕ, ◌^◌, ◌<◌, ◌≤◌, Bool, true, false, cond, eqb, leb, List, [], ◌∷◌, ◌++◌, length, Result, refl, sym, ap, ◌∙◌, arith, lit<, append_assoc}
 use Rattle.std.proofs.lemmas.Bool.{leb-true, le-leb}
-use Rattle.std.proofs.lemmas.List.{length-replicate}
 use Rattle.byteorder.specs.Endian.{little_bytes}
-use Rattle.m3_base.specs.declared.command.Answer.{Answer}
-use Rattle.m3_base.specs.declared.command.Refusal.{Refusal}
 use Rattle.m3_base.specs.declared.ids.FlightId.{FlightId}
 use Rattle.m3_base.specs.declared.message.Header.{Header}
-use Rattle.m3_base.specs.declared.packet.Fresh.{Fresh}
-use Rattle.m3_base.specs.declared.packet.Packet.{Packet}
-use Rattle.m3_base.specs.declared.packet.Perm.{Perm}
 use Rattle.m3_base.specs.Limits.{is_within}
-use Rattle.m3_wire.specs.declared.codes.Kind.{Kind}
-use Rattle.m3_wire.specs.declared.codes.AnswerForm.{AnswerForm}
-use Rattle.m3_wire.specs.declared.codes.RecordForm.{RecordForm}
-use Rattle.m3_wire.specs.Reading.{Fault, number, coded, byte, some_bytes, pair, mapped}
+use Rattle.m3_wire.specs.Reading.{Fault, byte, pair, mapped}
 use Rattle.m3_wire.specs.Headers.{Within, IsAct, IsGrant, IsCount, IsLabel, FitsHeader, header_bytes, is_reply_ep, least_reply, most_reply}
-use Rattle.m3_wire.specs.Formats.{small, act, ep, grant, count, label, act_id, kernel_id, flight_of, kernels, HeaderFields, header_fields, header_of, header, second, counted}
+use Rattle.m3_wire.specs.Formats.{small, act, ep, grant, count, label, act_id, kernel_id, flight_of, kernels, HeaderFields, header_of, header, second, counted}
 use Rattle.m3_wire.specs.Packets.{IsOfAct, IsOfKernel, IsEp, id_bytes, counted_bytes}
-use Rattle.m3_wire.proofs.Exact.{IsBytes, Opens, Cut, Stop, Sound, Exact, pair_sound, mapped_sound}
-use Rattle.m3_wire.proofs.Bytes.{IsLong, as_is, bytes_exact, byte_exact, itself}
-use Rattle.m3_wire.proofs.Numbers.{number_exact, both, either}
+use Rattle.m3_wire.proofs.Exact.{Exact, pair_sound, mapped_sound}
+use Rattle.m3_wire.proofs.Bytes.{bytes_exact, byte_exact, itself}
+use Rattle.m3_wire.proofs.Numbers.{number_exact, both}
 
 -- one byte as it stands
 abbrev pub cell : ℕ → List ℕ

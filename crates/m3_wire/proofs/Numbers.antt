@@ -1,12 +1,11 @@
 -- Numbers are read exactly.
-use Rattle.std.proofs.Common.{◌≡◌, ℕ, zero, suc, ◌+◌, ◌-◌, ◌*◌, ◌/◌, ◌%◌, ◌^◌, ◌<◌, ◌≤◌, Bool, true, false, cond, ◌&&◌, ◌||◌, leb, List, [], ◌∷◌, ◌++◌, length, Result, Ok, Err, refl, sym, ap, subst, ◌∙◌, arith, inl, inr, ◌⊎◌, slice_index, pow-suc}
-use Rattle.std.proofs.lemmas.Bool.{cases_lt, leb-true, leb-false, le-leb}
-use Rattle.std.proofs.lemmas.Grind.{common_steps}
+use Rattle.std.proofs.Common.{◌≡◌, ℕ, zero, suc, ◌+◌, ◌*◌, ◌/◌, ◌%◌, ◌^◌, ◌<◌, ◌≤◌, Bool, true, false, ◌&&◌, ◌||◌, leb, List, [], ◌∷◌, ◌++◌, length, Result, Ok, Err, refl, sym, ap, ◌∙◌, arith, inl, inr, ◌⊎◌, pow-suc}
+use Rattle.std.proofs.lemmas.Bool.{cases_lt, leb-true, le-leb}
 use Rattle.m3_wire.specs.Reading.{Fault, Short, Bad, goes, number_from, number}
 use Rattle.byteorder.specs.Endian.{little_bytes}
 use Rattle.m3_wire.specs.Headers.{Within}
 use Rattle.m3_wire.proofs.Results.{ok, ok_same, left_same}
-use Rattle.m3_wire.proofs.Exact.{IsBytes, Opens, Cut, Stop, Sound, Exact}
+use Rattle.m3_wire.proofs.Exact.{IsBytes, Exact}
 use Rattle.m3_wire.proofs.Little.{le, le_is}
 
 pub both : (a b : Bool) → (a && b) ≡ true → (a ≡ true) × (b ≡ true)

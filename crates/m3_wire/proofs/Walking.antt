@@ -1,11 +1,10 @@
 -- Reading a number byte by byte, as a loop does.
-use Rattle.std.proofs.Common.{◌≡◌, ℕ, zero, suc, ◌+◌, ◌-◌, ◌*◌, ◌^◌, ◌<◌, ◌≤◌, Bool, true, false, cond, List, [], ◌∷◌, ◌++◌, length, Result, Ok, Err, refl, sym, ap, subst, ◌∙◌, arith, inl, inr, ◌⊎◌, pow-suc, get_or, take, drop, add-one, sub-one}
-use Rattle.std.proofs.Math.Seq.{take-length}
-use Rattle.std.proofs.Common.{drop-cons, length-drop, ◌&&◌, ◌||◌, leb}
+use Rattle.std.proofs.Common.{◌≡◌, ℕ, zero, suc, ◌+◌, ◌-◌, ◌*◌, ◌^◌, ◌<◌, ◌≤◌, true, false, cond, List, ◌∷◌, ◌++◌, length, Ok, Err, refl, sym, ap, ◌∙◌, arith, inl, inr, ◌⊎◌, pow-suc, get_or, drop, add-one}
+use Rattle.std.proofs.Common.{drop-cons, length-drop, ◌||◌, leb}
 use Rattle.std.proofs.lemmas.List.{drop_all}
 use Rattle.std.proofs.lemmas.Bool.{leb-true}
 use Rattle.std.proofs.Math.Nat.{pow-le-pow_right, mul-le-mul_left}
-use Rattle.m3_wire.specs.Reading.{Fault, Short, Bad, goes, number_from, number}
+use Rattle.m3_wire.specs.Reading.{Short, Bad, goes, number_from, number}
 use Rattle.byteorder.specs.Endian.{little_number, little_bytes}
 use Rattle.m3_wire.proofs.Exact.{IsBytes}
 use Rattle.m3_wire.proofs.Little.{bytes_are, le_is}

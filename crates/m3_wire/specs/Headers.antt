@@ -1,5 +1,5 @@
 -- Headers, and the bytes that spell them.
-use Rattle.std.specs.Prelude.{◌≡◌, ℕ, ◌≤◌, ◌==◌, nat_le, ◌||◌, Bool, true, if◌then◌else◌, List, [], ◌∷◌, ◌++◌}
+use Rattle.std.specs.Prelude.{◌≡◌, ℕ, ◌≤◌, ◌==◌, nat_le, ◌||◌, Bool, true, if◌then◌else◌, List, ◌∷◌, ◌++◌}
 use Rattle.byteorder.specs.Endian.{little_bytes}
 use Rattle.m3_base.specs.declared.message.Header.{Header}
 use Rattle.m3_wire.specs.declared.refusal.Part.{Part}

@@ -1,5 +1,5 @@
 -- Reading from left to right: a value and the bytes after it, or the first byte at which no spelling goes on.
-use Rattle.std.specs.Prelude.{◌≡◌, ℕ, zero, suc, ◌+◌, ◌*◌, nat_le, nat_lt, take, drop, ◌&&◌, ◌||◌, Bool, true, false, if◌then◌else◌, List, [], ◌∷◌, length, Option, Some, None, Result, Ok, Err, ⊤}
+use Rattle.std.specs.Prelude.{◌≡◌, ℕ, zero, suc, ◌+◌, ◌*◌, nat_le, nat_lt, take, drop, ◌&&◌, ◌||◌, Bool, if◌then◌else◌, List, [], ◌∷◌, length, Option, Some, None, Result, Ok, Err, ⊤}
 use Rattle.m3_wire.specs.declared.refusal.ReadError.{ReadError}
 pub use Rattle.m3_wire.specs.declared.refusal.Fault.{Fault}
 pub use Rattle.m3_wire.specs.declared.refusal.Fault.TheVariants.{Short, Bad}

@@ -55,10 +55,12 @@ fn refusal_of(alloc: Global, bytes: &[u8]) -> Option<WireRefusal> {
     }
 }
 
-/// The bytes with one of them set to this value.
+/// The bytes with the one at this place, which there is, set to this value.
 fn with_byte(alloc: Global, bytes: &[u8], at: usize, value: u8) -> Result<Vec<u8>, AllocError> {
     let mut changed = Vec::from_slice(alloc, bytes)?;
-    changed[at] = value;
+    if at < changed.len() {
+        changed[at] = value;
+    }
     Ok(changed)
 }
 

@@ -1,4 +1,4 @@
-use Rattle.std.proofs.Common.{arith, refl, ◌≡◌}
+use Rattle.std.proofs.Common.{arith, refl}
 use Rattle.m3_wire.specs.Headers.{FitsHeader, header_bytes, part_in_header}
 use Rattle.m3_wire.specs.Formats.{header}
 use Rattle.m3_wire.proofs.Formats.{header_exact}

@@ -1,4 +1,4 @@
-use Rattle.std.proofs.Common.{arith, refl, sym, ap, ◌∙◌, ◌≡◌, ◌-◌, ℕ, length, length-append}
+use Rattle.std.proofs.Common.{arith, length}
 use Rattle.m3_wire.specs.Packets.{FitsPacket, packet_bytes}
 use Rattle.m3_wire.specs.Formats.{packet}
 use Rattle.m3_wire.proofs.Carried.{packet_exact}

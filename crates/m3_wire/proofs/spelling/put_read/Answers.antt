@@ -1,4 +1,4 @@
-use Rattle.std.proofs.Common.{sym, ◌∙◌}
+use Rattle.std.proofs.Common.{sym}
 use Rattle.m3_wire.proofs.Joined.{behind4}
 use Rattle.m3_wire.proofs.spelling.put_read.Goals as goal
 
