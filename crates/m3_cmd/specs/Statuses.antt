@@ -17,7 +17,6 @@ use Rattle.m3_machine.specs.Kept.{IsWithin, PlacesRun, Ran}
 use Rattle.m3_script.specs.declared.script.Mode.{Mode}
 use Rattle.m3_script.specs.Scripts.{Refused, ScriptValue, script_of}
 use Rattle.m3_journal.specs.Texts.{journal_text}
-use Rattle.m3_cmd.specs.declared.words.Form.{Form}
 
 abbrev pub line_of : List ℕ → List ℕ
 line_of text = text ++ 10 ∷ []
@@ -111,14 +110,6 @@ pub record IsScript (bytes : List ℕ) : Type 0 where
 -- what a run answers to these bytes: the journal of the script, or that they are none
 abbrev pub IsAnswerTo : List ℕ → List ℕ → Type 0
 IsAnswerTo bytes text = IsJournalOf bytes text ⊎ (IsNoScript bytes × (text ≡ bad_script_line))
-
--- what is to be written, by the form of the words: where the source's faults rose, where it gave more than the limit, and
--- else by its bytes
-abbrev pub IsOutput : Option Form → Type 0 → Option (List ℕ) → Option (List ℕ) → List ℕ → Type 0
-IsOutput None rose old new text = text ≡ usage_line
-IsOutput (Some Form.Run) rose old new text =
-    (rose × (text ≡ read_fault_line))
-    ⊎ ((GivesMore old new most_bytes × (text ≡ too_long_line)) ⊎ OfBytes old (λ bytes. IsAnswerTo bytes text))
 
 -- a prefix of such a text is written
 pub record WritesSome (Is : List ℕ → Type 0) (old new : Option (List ℕ)) : Type 0 where
