@@ -1,12 +1,13 @@
 //! An activity that is away from its tile.
 
-ghost use Rattle.std.specs.Prelude.{◌≡◌, true, [], Some, IfOk};
+ghost use Rattle.std.specs.Prelude.{◌≡◌, ◌++◌, true, [], Some, IfOk};
 ghost use Rattle.m3_base.specs.Fits.{fits};
 ghost use Rattle.m3_base.specs.Arrive.{arrive};
 ghost use Rattle.m3_kernel.specs.Parts.{heard_of, Restore};
 ghost use Rattle.m3_kernel.specs.Parcels.{heard_in, parcel_of};
 ghost use Rattle.m3_kernel.specs.Kernel.{after_packet};
 ghost use Rattle.m3_kernel.specs.Came.{arrival_of, AtMostOne};
+ghost use Rattle.m3_kernel.specs.Settled.{AreNotBoth};
 
 use crate::came::{Came, meet};
 use m3_base::ids::ActId;
@@ -34,7 +35,7 @@ impl Model for Away {
 
     ghost view = { λ y. record { context = y.context; heard = heard_in y.heard; ended = y.ended } };
 
-    ghost invariant = { λ y. IsSettled y.heard y.context };
+    ghost invariant = { λ y. IsSettled (heard_in y.heard) y.context };
 }
 
 /// What the program is to hear of a packet: an answer to its command.
@@ -50,6 +51,16 @@ pub fn heard_of(alloc: Global, packet: &Packet) -> Result<Option<Heard>, AllocEr
             }))
         }
         _ => Ok(None),
+    }
+}
+
+/// What is heard joins what was heard. One of them is nothing.
+fn hear(before: &mut Option<Heard>, heard: Option<Heard>)
+    requires { AreNotBoth (heard_in before.old) (heard_in heard) }
+    ensures { heard_in before.new ≡ heard_in before.old ++ heard_in heard }
+{
+    if heard.is_some() {
+        *before = heard;
     }
 }
 
@@ -82,9 +93,7 @@ impl Away {
     {
         let _few = self.context.flying();
         let came = meet(&mut self.context, packet);
-        if heard.is_some() {
-            self.heard = heard;
-        }
+        hear(&mut self.heard, heard);
         came
     }
 

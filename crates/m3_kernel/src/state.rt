@@ -5,7 +5,7 @@ mod switch;
 mod take;
 mod tend;
 
-ghost use Rattle.std.specs.Prelude.{◌≡◌, ◌<◌, length, OnOk};
+ghost use Rattle.std.specs.Prelude.{◌≡◌, ◌<◌, None, length, slice_index_or, OnOk};
 ghost use Rattle.m3_kernel.specs.Kernel.{then_restore};
 ghost use Rattle.m3_kernel.specs.Parcels.{out_of};
 ghost use Rattle.m3_kernel.specs.Berths.{berth_at};
@@ -39,15 +39,23 @@ pub struct State {
 }
 
 impl State {
-    /// The place of the seat of the activity of this number.
-    pub fn place(&self, act: u8) -> Option<usize>
-        requires { IsKept self.now }
-        ensures { PlaceIs (kernel_in self.now) act result }
+    /// What the table of places says of the activity of this number.
+    fn entry(&self, act: u8) -> Option<usize>
+        ensures { result ≡ slice_index_or self.now.index.items act None }
     {
         match self.index.get(usize::from(act)) {
             Some(Some(at)) => Some(*at),
             _ => None,
         }
+    }
+
+    /// The place of the seat of the activity of this number.
+    #[tactic(auto, using(crate::proofs::Places::place_by))]
+    pub fn place(&self, act: u8) -> Option<usize>
+        requires { IsKept self.now }
+        ensures { PlaceIs (kernel_in self.now) act result }
+    {
+        self.entry(act)
     }
 
     /// What is kept of a tile.
