@@ -1,1 +1,9 @@
 pub mod Homes
+pub mod Only
+pub mod Places
+pub mod Hearing
+pub mod Tables
+pub mod Reseating
+pub mod Kernels
+pub mod Deeds
+pub mod Switching
