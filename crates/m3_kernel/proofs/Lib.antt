@@ -13,3 +13,4 @@ pub mod Taking
 pub mod Answering
 pub mod Tending
 pub mod Applying
+pub mod Opening
