@@ -11,7 +11,7 @@ use Rattle.m3_base.specs.Context.{Context, Flying, endpoint, with_endpoint}
 use Rattle.m3_base.specs.Land.{land, land_by, land_refusal, taken, flying_at, without_flying, has_live, closed_at, flies_at, answered, frees}
 use Rattle.m3_base.specs.Arrive.{Arrived, arrive, answer_arrives, message_arrives, close_arrives, freed_context}
 use Rattle.m3_base.specs.Fits.{fits, fits_answer}
-use Rattle.m3_base.specs.Places.{target, target_of}
+use Rattle.m3_base.specs.Places.{target}
 use Rattle.m3_kernel.specs.Parts.{Heard, heard_of}
 use Rattle.m3_kernel.specs.Came.{answers_to}
 use Rattle.m3_kernel.specs.Settled.{IsSettled, AreNotBoth}
@@ -135,32 +135,39 @@ settled_then c (Packet.Answer id answer) r xs e le a s =
 
 -- ---- the answer
 
-abbrev pub target_in : Option Arrived → Option ℕ
-target_in None = None
-target_in (Some r) = target_of r.answer
+abbrev pub answer_in : Option Arrived → Option Packet
+answer_in None = None
+answer_in (Some r) = r.answer
 
-landed_target : (ep : ℕ) (m : Message) (c : Context) (o : Option Refusal) → target (land_by ep m c o).answer ≡ Some m.header.sender
-landed_target ep m c None = refl
-landed_target ep m c (Some why) = refl
+-- an answer to this activity, or none
+abbrev pub IsAnswerTo : Option ℕ → Option Packet → Type 0
+IsAnswerTo None answer = answer ≡ None
+IsAnswerTo (Some a) answer = (q : Packet) × ((answer ≡ Some q) × (target q ≡ Some a))
 
-close_target : (c d : Context) (id : FlightId) (ep g : ℕ) (b : Bool) → target_in (close_arrives c id ep g d b) ≡ None
-close_target c d id ep g true = refl
-close_target c d id ep g false = refl
+landed_to : (ep : ℕ) (m : Message) (c : Context) (o : Option Refusal) → target (land_by ep m c o).answer ≡ Some m.header.sender
+landed_to ep m c None = refl
+landed_to ep m c (Some why) = refl
+
+close_answers : (c d : Context) (id : FlightId) (ep g : ℕ) (b : Bool) → answer_in (close_arrives c id ep g d b) ≡ None
+close_answers c d id ep g true = refl
+close_answers c d id ep g false = refl
 
 -- a message is answered to its sender, and no other packet is answered
-pub arrive_target : (c : Context) (p : Packet) (r : Arrived) → arrive c p ≡ Some r → target_of r.answer ≡ answers_to p
-arrive_target c (Packet.Message to ep g m) r a = ap target_in (sym a) ∙ landed_target ep m c (land_refusal g m (endpoint c ep))
-arrive_target c (Packet.Credit id to g) r a = ap target_in (sym a)
-arrive_target c (Packet.Read id g place buffer) r a = absurd (cc)
-arrive_target c (Packet.Write id g place payload) r a = absurd (cc)
-arrive_target c (Packet.Answer id answer) r a = ap target_in (sym a) ∙ by_found (flying_at id.number c.flying)
+pub arrive_answers : (c : Context) (p : Packet) (r : Arrived) → arrive c p ≡ Some r → IsAnswerTo (answers_to p) r.answer
+arrive_answers c (Packet.Message to ep g m) r a =
+    let l = land_by ep m c (land_refusal g m (endpoint c ep)) in
+    (l.answer, (ap answer_in (sym a), landed_to ep m c (land_refusal g m (endpoint c ep))))
+arrive_answers c (Packet.Credit id to g) r a = ap answer_in (sym a)
+arrive_answers c (Packet.Read id g place buffer) r a = absurd (cc)
+arrive_answers c (Packet.Write id g place payload) r a = absurd (cc)
+arrive_answers c (Packet.Answer id answer) r a = ap answer_in (sym a) ∙ by_found (flying_at id.number c.flying)
   where
-    by_found : (o : Option Flying) → target_in (answer_arrives c id answer o) ≡ None
+    by_found : (o : Option Flying) → answer_in (answer_arrives c id answer o) ≡ None
     by_found None = refl
     by_found (Some f) = refl
-arrive_target c (Packet.Install id to ep f) r a = ap target_in (sym a)
-arrive_target c (Packet.Close id to ep g) r a = ap target_in (sym a) ∙ by_live (has_live g (endpoint c ep))
+arrive_answers c (Packet.Install id to ep f) r a = ap answer_in (sym a)
+arrive_answers c (Packet.Close id to ep g) r a = ap answer_in (sym a) ∙ by_live (has_live g (endpoint c ep))
   where
-    by_live : (b : Bool) → target_in (cond b (close_arrives c id ep g (with_endpoint c ep (closed_at (endpoint c ep))) (flies_at ep c)) None) ≡ None
-    by_live true = close_target c (with_endpoint c ep (closed_at (endpoint c ep))) id ep g (flies_at ep c)
+    by_live : (b : Bool) → answer_in (cond b (close_arrives c id ep g (with_endpoint c ep (closed_at (endpoint c ep))) (flies_at ep c)) None) ≡ None
+    by_live true = close_answers c (with_endpoint c ep (closed_at (endpoint c ep))) id ep g (flies_at ep c)
     by_live false = refl

@@ -7,3 +7,10 @@ pub mod Reseating
 pub mod Kernels
 pub mod Deeds
 pub mod Switching
+pub mod Changing
+pub mod Restoring
+pub mod Taking
+pub mod Answering
+pub mod Tending
+pub mod Applying
+pub mod Opening

@@ -79,12 +79,14 @@ impl State {
     {
         self.seats.reserve(1)?;
         let at = self.seats.len();
-        if context.is_none() {
-            let tile = self.site.tile_of(act.number());
-            self.berths[usize::from(tile.number())].there = Some(at);
-        }
+        let is_first = context.is_none();
         self.index[usize::from(act.number())] = Some(at);
         self.seats.push_reserved(Seat::new(alloc, act, context));
+        if !is_first {
+            return Ok(());
+        }
+        let tile = self.site.tile_of(act.number());
+        self.berths[usize::from(tile.number())].there = Some(at);
         Ok(())
     }
 }
