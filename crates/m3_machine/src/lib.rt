@@ -8,5 +8,6 @@ pub mod memory;
 mod next;
 mod opening;
 mod returning;
+mod sends;
 mod shown;
 pub mod tile;
