@@ -1,6 +1,6 @@
 //! The tree of grants.
 
-ghost use Rattle.std.specs.Prelude.{◌≡◌, true, ◌+◌, ◌*◌, ◌<◌, ◌≤◌, ◌||◌, nat_le, [], length, IfOk, OnOk, OnErr, None, Some, is_some};
+ghost use Rattle.std.specs.Prelude.{◌≡◌, true, ◌+◌, ◌*◌, ◌<◌, ◌≤◌, ◌&&◌, ◌||◌, nat_le, [], length, IfOk, OnOk, OnErr, None, Some, is_some};
 ghost use Rattle.std.specs.List.{list_any};
 ghost use Rattle.m3_base.specs.Grants.{make_refusal, revoke_refusal, revoked, holds_at};
 ghost use Rattle.m3_base.specs.Places.{least_closing};
@@ -280,6 +280,16 @@ impl Grants {
         ensures { self.new ≡ record self.old { grants = with_sent self.old.grants g } }
     {
         mark_sent(&mut self.nodes, g);
+    }
+
+    /// Whether the grant's Close was sent and it isn't done: the condition of `closed`.
+    pub fn awaits_closed(&self, g: GrantId) -> bool
+        ensures { result ≡ (is_sent_in (grant_in self.now.grants g) && is_undone_in (grant_in self.now.grants g)) }
+    {
+        match self.open(g) {
+            Some(node) => node.close_sent,
+            None => false,
+        }
     }
 
     /// The grant is done, and its endpoint has no grant. The condition is that its Close was sent and it isn't done.

@@ -26,7 +26,8 @@ use Rattle.m3_base.specs.declared.event.Entry.{Entry}
 use Rattle.m3_base.specs.Setup.{SetupValue, IsValid}
 use Rattle.m3_kernel.specs.Parts.{Home, Kernel, home_of, tile_in}
 use Rattle.m3_kernel.specs.Homes.{home_tile}
-use Rattle.m3_machine.specs.Whole.{Whole, site, machine_of, entry, out_links, HasRoomFor, Steps}
+use Rattle.m3_machine.specs.Whole.{Whole, site, machine_of, entry, out_links, Steps}
+use Rattle.m3_machine.specs.Sends.{HasRoomFor}
 use Rattle.m3_machine.proofs.Valid.{home_high}
 use Rattle.m3_machine.specs.Machine as plain
 use Rattle.m3_machine.proofs.Aiming.{issue_goes, GoesTo, AllGo}
