@@ -1,5 +1,5 @@
 -- A machine's journal follows the events that it makes.
-use Rattle.std.proofs.Common.{◌≡◌, ℕ, ◌<◌, ◌≤◌, Bool, true, false, List, [], get_or, ◌∷◌, ◌++◌, length, map, append_assoc, append-nil, Some, None, refl, sym, ap, ◌∙◌, subst, arith}
+use Rattle.std.proofs.Common.{◌≡◌, ℕ, ◌<◌, ◌≤◌, true, false, List, [], get_or, ◌∷◌, ◌++◌, append_assoc, append-nil, Some, None, refl, sym, ap, ◌∙◌, subst, arith}
 use Rattle.std.specs.Prelude.{not, ◌&&◌, nat_lt}
 use Rattle.std.proofs.lemmas.Bool.Decides.{nat_tests}
 use Rattle.std.proofs.lemmas.List.{map-append}
@@ -9,11 +9,10 @@ use Rattle.m3_base.specs.declared.event.Entry.{Entry}
 use Rattle.m3_base.specs.State.{State}
 use Rattle.m3_base.specs.Places.{Places, opening_places}
 use Rattle.m3_base.specs.Entries.{IsRun}
-use Rattle.m3_base.specs.Opening.{opening}
 use Rattle.m3_base.specs.Setup.{SetupValue, IsValid, is_machine}
 use Rattle.m3_machine.specs.At.{at, places_of}
-use Rattle.m3_machine.specs.Kept.{IsKept, IsWithin, PlacesRun}
-use Rattle.m3_machine.specs.Whole.{Whole, Steps, entry, site, opened, opened_whole, IsServed, IsOfSetup as HasAct}
+use Rattle.m3_machine.specs.Kept.{IsKept, PlacesRun}
+use Rattle.m3_machine.specs.Whole.{Whole, Steps, entry, site, opened, opened_whole, IsServed}
 use Rattle.m3_machine.specs.Machine.{mstep}
 use Rattle.m3_machine.proofs.Contexts.{first_free}
 use Rattle.m3_machine.proofs.Declared.{declared_home}

@@ -8,7 +8,7 @@ use Rattle.m3_base.specs.Setup.{SetupValue}
 use Rattle.m3_base.specs.Entries.{IsRun}
 use Rattle.m3_base.specs.Opening.{opening}
 use Rattle.m3_base.specs.Places.{Places, opening_places}
-use Rattle.m3_base.specs.Causes.{Appends, AppendsSome, GivesMore}
+use Rattle.m3_base.specs.Causes.{Appends, AppendsSome}
 use Rattle.m3_machine.specs.Whole.{Whole, site, IsOfSetup as HasAct}
 use Rattle.m3_machine.specs.Kept.{IsWithin, PlacesRun, Ran}
 use Rattle.m3_script.specs.declared.script.Mode.{Mode}
