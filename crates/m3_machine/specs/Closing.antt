@@ -3,7 +3,7 @@ use Rattle.std.specs.Prelude.{◌≡◌, ℕ, List, [], ◌∷◌, ◌++◌, len
 use Rattle.m3_base.specs.declared.journal.AuditLine.{AuditLine}
 use Rattle.m3_machine.specs.Machine.{Machine}
 use Rattle.m3_machine.specs.At.{on_links, packets_in}
-use Rattle.m3_machine.specs.Next.{tile_lines, next_take}
+use Rattle.m3_machine.specs.Next.{tile_lines, next_event}
 use Rattle.m3_machine.specs.Whole.{Whole}
 
 -- the packets on all links
@@ -13,7 +13,7 @@ flights m = length (on_links packets_in m.links)
 abbrev pub last_lines : Whole → List AuditLine
 last_lines w =
     tile_lines w.setup.tiles w.machine.tiles
-    ++ AuditLine.Flights (min 4294967295 (flights w.machine)) ∷ AuditLine.Quiet (is_none (next_take w.machine)) ∷ []
+    ++ AuditLine.Flights (min 4294967295 (flights w.machine)) ∷ AuditLine.Quiet (is_none (next_event w.machine)) ∷ []
 
 pub record EndsWith (lines last : List AuditLine) : Type 0 where
   pub before : List AuditLine

@@ -1,7 +1,7 @@
 use Rattle.std.proofs.Common.{◌≡◌, ℕ, List, [], ◌∷◌, ◌++◌, min, is_none, ◌∙◌, ap}
 use Rattle.m3_base.specs.declared.journal.AuditLine.{AuditLine}
 use Rattle.m3_kernel.specs.Parts.{Tile}
-use Rattle.m3_machine.specs.Next.{tile_lines, next_take}
+use Rattle.m3_machine.specs.Next.{tile_lines, next_event}
 use Rattle.m3_machine.specs.Closing.{flights}
 use Rattle.m3_machine.specs.Whole.{Whole}
 use Rattle.m3_machine.proofs.Closing.{ends_with, is_none_from}
@@ -20,7 +20,7 @@ returns c =
     c.flights.ensures
     ∙ ap (min 4294967295) (flights_are inside.wires.lists)
     ∙ ap (λ (v : Whole). min 4294967295 (flights v.machine)) c.self.view_is in
-    let quiet : c.is_none.result ≡ is_none (next_take w.machine) = is_none_from c.is_none.result c.next.result c.is_none.ensures ∙ ap is_none c.next.ensures in
+    let quiet : c.is_none.result ≡ is_none (next_event w.machine) = is_none_from c.is_none.result c.next.result c.is_none.ensures ∙ ap is_none c.next.ensures in
     ends_with
     c.credit_lines.new.lines.items
     c.tile_lines.new.lines.items
@@ -28,7 +28,7 @@ returns c =
     c.push-2.new.self.items
     (tile_lines w.setup.tiles w.machine.tiles)
     (AuditLine.Flights (min 4294967295 (flights w.machine)))
-    (AuditLine.Quiet (is_none (next_take w.machine)))
+    (AuditLine.Quiet (is_none (next_event w.machine)))
     (c.in_ok-tile_lines.ensures ∙ ap (λ ls. c.credit_lines.new.lines.items ++ ls) tiled)
     (c.in_ok-push.ensures.items ∙ ap (λ (n : ℕ). c.tile_lines.new.lines.items ++ AuditLine.Flights n ∷ []) flown)
     (c.in_ok-push-2.ensures.items ∙ ap (λ b. c.push.new.self.items ++ AuditLine.Quiet b ∷ []) quiet)
