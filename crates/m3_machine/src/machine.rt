@@ -6,14 +6,14 @@ ghost use Rattle.m3_base.specs.declared.order.Order.{Order};
 ghost use Rattle.m3_base.specs.Setup.{IsValid};
 ghost use Rattle.m3_machine.specs.declared.machine.StepRefusal.{StepRefusal};
 ghost use Rattle.m3_kernel.specs.Naming.{is_home};
-ghost use Rattle.m3_machine.specs.Next.{next_take};
+ghost use Rattle.m3_machine.specs.Next.{next_event};
 ghost use Rattle.m3_machine.specs.Closing.{IsCounted, lines, ideal_lines};
 ghost use Rattle.m3_machine.specs.Machine.{link_at};
 ghost use Rattle.m3_machine.specs.Whole.{site, opened_whole, HasParcel, IsOfSetup, IsServed, IsUnserved, Steps};
 
-use crate::audit::{credit_lines, tile_lines};
+use crate::audit::{credit_lines, flights, tile_lines};
 use crate::memory::MemPart;
-use crate::next::next_take;
+use crate::next::next_event;
 use crate::opening::{contexts, seated};
 use crate::sends::{add, put_out, put_out_both, room_at_kernel, room_to_take};
 use crate::tile::{TileDid, TilePart, idle};
@@ -324,11 +324,12 @@ impl Machine {
     }
 
     /// The event that the driver makes next, where there is one: the take with the least receiving tile, then the least
-    /// sending tile, among links that aren't empty.
+    /// sending tile, among links that aren't empty; then the tend of the least activity that is Resting or Coming and for
+    /// which something is held; then a close, where a grant is due.
     pub fn next(&self) -> Option<Event>
-        ensures { result ≡ next_take self.now.machine }
+        ensures { result ≡ next_event self.now.machine }
     {
-        next_take(&self.wires)
+        next_event(&self.wires, &self.kernel)
     }
 
     /// The closing lines: the credits of each send grant, the current activity of each tile from 2 on, the flights, and
@@ -339,15 +340,17 @@ impl Machine {
         ensures few { length self.now.entries ≤ 2097152 }
     {
         let mut lines = Vec::new(alloc);
+        let seats = self.kernel.seats();
         credit_lines(
             alloc,
-            &self.journal.setup,
+            self.kernel.grants(),
             &self.tiles,
+            seats,
             &self.wires,
             &mut lines,
         )?;
         tile_lines(self.journal.setup.tiles(), &self.tiles, &mut lines)?;
-        lines.push(AuditLine::Flights(self.wires.flights()))?;
+        lines.push(AuditLine::Flights(flights(seats, &self.wires)))?;
         lines.push(AuditLine::Quiet(self.next().is_none()))?;
         Ok(Audit { lines })
     }
