@@ -84,7 +84,7 @@ fn close() -> Parcel {
 }
 
 /// An event of the kernel.
-#[derive(Drop)]
+#[derive(Clone, Copy, Debug, Drop)]
 enum Step {
     Switch(TileId, ActId),
     Message,
