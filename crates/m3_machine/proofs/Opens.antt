@@ -23,7 +23,7 @@ use Rattle.m3_base.specs.Obeys.{AllObey}
 use Rattle.m3_base.specs.Opening.{with_line, with_lines}
 use Rattle.m3_machine.specs.Machine.{empty_tiles, link_at, seated_all, opened_machine}
 use Rattle.m3_kernel.specs.Sites.{with_home, site_of}
-use Rattle.m3_machine.specs.Machine as machine
+use Rattle.m3_kernel.specs.Sites as sites
 use Rattle.m3_machine.specs.At.{held_by, closed_from}
 use Rattle.m3_machine.proofs.Along.{act_along, grant_along}
 
@@ -53,7 +53,7 @@ TilesOk [] = Unit {0}
 TilesOk (SetupLine.Act a t ∷ ls) = ((2 ≤ t) × (t < 16)) × TilesOk ls
 TilesOk (l ∷ ls) = TilesOk ls
 
-pub site_is : (programs : List ℕ) (h : Site) (lines : List SetupLine) → machine.with_homes programs h lines ≡ record { homes = h.homes ++ homes_of programs lines; quantum = quantum_of h.quantum lines; memory = h.memory }
+pub site_is : (programs : List ℕ) (h : Site) (lines : List SetupLine) → sites.with_homes programs h lines ≡ record { homes = h.homes ++ homes_of programs lines; quantum = quantum_of h.quantum lines; memory = h.memory }
 site_is programs h [] = λ k. record { homes = sym (append-nil h.homes) k; quantum = h.quantum; memory = h.memory }
 site_is programs h (SetupLine.Act a t ∷ ls) =
     let x : Home = record { act = a; tile = t; has_program = list_any (λ b. b == a) programs } in
