@@ -1,22 +1,21 @@
 -- The data after the front of a hold list was applied.
-use Rattle.std.proofs.Common.{◌≡◌, ℕ, ◌<◌, Bool, true, false, cond, List, [], ◌∷◌, ◌++◌, length, get_or, set, Option, Some, None, refl, sym, ap, ◌∙◌, subst, arith}
-use Rattle.std.specs.Prelude.{slice_get, slice_set, ◌==◌, ◌||◌}
+use Rattle.std.proofs.Common.{◌≡◌, ℕ, ◌<◌, Bool, true, false, cond, List, length, get_or, set, Option, Some, None, refl, sym, ap, ◌∙◌, subst, arith}
+use Rattle.std.specs.Prelude.{slice_get, ◌==◌, ◌||◌}
 use Rattle.std.proofs.lemmas.Bool.Decides.{nat_tests}
 use Rattle.std.proofs.lemmas.Option.{slice_get_within}
 use Rattle.m3_base.specs.declared.event.IdleWhy.{IdleWhy}
 use Rattle.m3_base.specs.declared.packet.Packet.{Packet}
-use Rattle.m3_base.specs.Places.{target}
 use Rattle.m3_base.specs.State.{same_act}
 use Rattle.m3_core.specs.declared.parcel.Heard.{Heard}
 use Rattle.m3_core.specs.declared.parcel.Emit.{Emit}
-use Rattle.m3_kernel.specs.Parts.{Site, tile_of, Parcel, Away, Seating, Is_placed, Is_leaving, Is_resting, Is_coming, Seat, Kernel, Deed, is_idle, closed_out}
+use Rattle.m3_kernel.specs.Parts.{Site, tile_of, Away, Seating, Is_placed, Is_leaving, Is_resting, Is_coming, Seat, Kernel, is_idle}
 use Rattle.m3_kernel.specs.Parcels.{out_of}
-use Rattle.m3_kernel.specs.Kernel.{seat_of, with_seat, after_packet, Routed, answer_routed, tended_by, tend_by, tend_seat, kernel_tend, then_restore, is_placed_seat, is_leaving_seat, is_coming_seat}
+use Rattle.m3_kernel.specs.Kernel.{seat_of, with_seat, after_packet, answer_routed, tended_by, tend_by, kernel_tend, then_restore, is_placed_seat, is_leaving_seat, is_coming_seat}
 use Rattle.m3_kernel.specs.Came.{answers_to, arrival_of}
 use Rattle.m3_kernel.specs.Seats.{seat_value, seats_of, away_in, first, fitting, fitting_at, sits, HasRoom, Hears, Met}
 use Rattle.m3_kernel.specs.Berths.{IsOnly, is_of, AreTables}
 use Rattle.m3_kernel.specs.States.{kernel_in, IsKept, RoomFor, CanRoute}
-use Rattle.m3_kernel.specs.Doing.{IsSeatOf, IsAwayAt, NoBack, IsBack, BackIs, CanAnswer, IsThere, IsTending, IsAnswer, AnswersBy, SendsBack}
+use Rattle.m3_kernel.specs.Doing.{IsSeatOf, IsAwayAt, NoBack, BackIs, CanAnswer, IsThere, AnswersBy, SendsBack}
 use Rattle.m3_kernel.specs.declared.came.Came.{Came}
 use Rattle.m3_kernel.specs.declared.seat.Seat.{Seat as CodeSeat}
 use Rattle.m3_kernel.specs.declared.state.State.{State}

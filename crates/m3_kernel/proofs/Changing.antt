@@ -1,15 +1,15 @@
 -- The data after a seat has changed.
-use Rattle.std.proofs.Common.{◌≡◌, ℕ, ◌+◌, ◌<◌, Bool, true, false, cond, List, [], ◌∷◌, ◌++◌, length, map, get_or, set, Option, Some, None, Result, Ok, Err, OnOk, refl, sym, ap, ◌∙◌, subst, arith}
-use Rattle.std.specs.Prelude.{slice_get, slice_set, ◌==◌, ◌||◌}
+use Rattle.std.proofs.Common.{◌≡◌, ℕ, ◌<◌, Bool, true, false, cond, List, [], ◌∷◌, ◌++◌, length, get_or, set, Some, Result, Ok, Err, OnOk, refl, sym, ap, ◌∙◌, subst, arith}
+use Rattle.std.specs.Prelude.{slice_get, ◌==◌, ◌||◌}
 use Rattle.std.proofs.lemmas.Bool.Decides.{nat_tests}
-use Rattle.std.proofs.lemmas.List.{map-set, set-get_or, get_or-map}
+use Rattle.std.proofs.lemmas.List.{set-get_or, get_or-map}
 use Rattle.std.proofs.lemmas.Option.{slice_get-get_or}
 use Rattle.m3_base.specs.declared.packet.Packet.{Packet}
 use Rattle.m3_kernel.specs.Parts.{Site, tile_of, Parcel, Data, Seating, Is_placed, Is_leaving, Is_resting, Is_coming, Seat, Kernel}
 use Rattle.m3_kernel.specs.Kernel.{with_seat, is_placed_seat, is_leaving_seat, is_coming_seat, Routed, route_to, hold}
 use Rattle.m3_kernel.specs.Seats.{seat_value, seats_of, seating_of, place_of, HasRoom}
 use Rattle.m3_kernel.specs.Berths.{IsOnly, is_of, AreTables}
-use Rattle.m3_kernel.specs.States.{kernel_in, IsKept, RoomFor, CanRoute}
+use Rattle.m3_kernel.specs.States.{kernel_in, IsKept, RoomFor}
 use Rattle.m3_kernel.specs.declared.seat.Place.{Place}
 use Rattle.m3_kernel.specs.declared.seat.Seating.{Seating as CodeSeating}
 use Rattle.m3_kernel.specs.declared.seat.Seat.{Seat as CodeSeat}

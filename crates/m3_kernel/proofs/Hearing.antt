@@ -1,5 +1,5 @@
 -- What flies at a context after a packet, and what is heard of it.
-use Rattle.std.proofs.Common.{◌≡◌, ℕ, zero, suc, ◌+◌, ◌<◌, ◌≤◌, Bool, true, false, cond, List, [], ◌∷◌, ◌++◌, length, Option, Some, None, refl, sym, ap, ◌∙◌, subst, arith}
+use Rattle.std.proofs.Common.{◌≡◌, ℕ, ◌≤◌, Bool, true, false, cond, List, [], ◌∷◌, ◌++◌, length, Option, Some, None, refl, sym, ap, ◌∙◌, arith}
 use Rattle.std.specs.Prelude.{◌==◌, ◌&&◌, nat_lt}
 use Rattle.std.proofs.lemmas.Bool.Decides.{nat_tests}
 use Rattle.m3_base.specs.declared.ids.FlightId.{FlightId}
@@ -8,8 +8,8 @@ use Rattle.m3_base.specs.declared.command.Refusal.{Refusal}
 use Rattle.m3_base.specs.declared.message.Message.{Message}
 use Rattle.m3_base.specs.declared.packet.Packet.{Packet}
 use Rattle.m3_base.specs.Context.{Context, Flying, endpoint, with_endpoint}
-use Rattle.m3_base.specs.Land.{land, land_by, land_refusal, taken, flying_at, without_flying, has_live, closed_at, flies_at, answered, frees}
-use Rattle.m3_base.specs.Arrive.{Arrived, arrive, answer_arrives, message_arrives, close_arrives, freed_context}
+use Rattle.m3_base.specs.Land.{land_by, land_refusal, taken, flying_at, without_flying, has_live, closed_at, flies_at, answered, frees}
+use Rattle.m3_base.specs.Arrive.{Arrived, arrive, answer_arrives, close_arrives, freed_context}
 use Rattle.m3_base.specs.Fits.{fits, fits_answer}
 use Rattle.m3_base.specs.Places.{target}
 use Rattle.m3_kernel.specs.Parts.{Heard, heard_of}

@@ -1,19 +1,14 @@
 -- The kernel after a change of its data.
-use Rattle.std.proofs.Common.{◌≡◌, ℕ, zero, suc, ◌+◌, ◌<◌, ◌≤◌, Bool, true, false, cond, List, [], ◌∷◌, ◌++◌, length, map, get_or, set, replicate, Option, Some, None, refl, sym, ap, ◌∙◌, subst, arith}
-use Rattle.std.specs.Prelude.{slice_get, slice_set, ◌==◌, ◌&&◌, not, filter}
+use Rattle.std.proofs.Common.{◌≡◌, ℕ, zero, suc, ◌<◌, true, false, List, [], length, get_or, set, replicate, Option, Some, None, refl, sym, ap, ◌∙◌, subst, arith}
+use Rattle.std.specs.Prelude.{slice_get, slice_set, ◌==◌, not, filter}
 use Rattle.std.proofs.lemmas.Bool.Decides.{nat_tests}
 use Rattle.std.proofs.lemmas.List.{map-set, set-get_or, get_or-map}
-use Rattle.m3_base.specs.Keyed as keyed
-use Rattle.m3_base.specs.State.{same_act, is_number}
-use Rattle.m3_kernel.specs.Parts.{Site, Seat, Kernel, has_program}
-use Rattle.m3_kernel.specs.Kernel.{seat_act, with_seat, leave_ready, join_ready, with_yielded}
+use Rattle.m3_kernel.specs.Parts.{Site, Seat, Kernel}
+use Rattle.m3_kernel.specs.Kernel.{with_seat}
 use Rattle.m3_kernel.specs.Seats.{seat_value, seats_of}
-use Rattle.m3_kernel.specs.Berths.{test, IsOnly, is_of, berth_at, yielded_in, yielded_of, AreTables}
-use Rattle.m3_kernel.specs.States.{kernel_in, IsKept}
+use Rattle.m3_kernel.specs.Berths.{test, IsOnly, is_of, yielded_in, yielded_of, AreTables}
 use Rattle.m3_kernel.specs.declared.seat.Seat.{Seat as CodeSeat}
 use Rattle.m3_kernel.specs.declared.berth.Berth.{Berth}
-use Rattle.m3_kernel.specs.declared.state.State.{State}
-use Rattle.m3_kernel.proofs.Only.{only_kept}
 use Rattle.m3_kernel.proofs.Places.{replaced_set}
 use Rattle.m3_kernel.proofs.Reseating.{number_is}
 

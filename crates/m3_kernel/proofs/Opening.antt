@@ -1,19 +1,19 @@
 -- A kernel as it opens, and a seat more.
-use Rattle.std.proofs.Common.{◌≡◌, ℕ, zero, suc, ◌<◌, ◌≤◌, Bool, true, false, cond, List, [], ◌∷◌, ◌++◌, length, map, get_or, set, replicate, Option, Some, None, refl, sym, ap, ◌∙◌, subst, arith, ⊎_elim}
-use Rattle.std.specs.Prelude.{slice_get, ◌==◌, ◌&&◌, ◌||◌, is_none}
+use Rattle.std.proofs.Common.{◌≡◌, ℕ, zero, suc, ◌<◌, Bool, true, false, cond, List, [], ◌∷◌, ◌++◌, length, get_or, set, replicate, Option, Some, None, refl, sym, ap, ◌∙◌, subst, arith, ⊎_elim}
+use Rattle.std.specs.Prelude.{◌==◌, ◌&&◌, ◌||◌, is_none}
 use Rattle.std.specs.List.{list_any}
 use Rattle.std.proofs.lemmas.Bool.Decides.{nat_tests}
 use Rattle.std.proofs.lemmas.Bool.{cases_eq}
-use Rattle.std.proofs.lemmas.List.{map-append, map-set, set-get_or, get_or-map, get_or-set_same, get_or-set_other, length-set, length-map, get_or_default}
+use Rattle.std.proofs.lemmas.List.{map-append, get_or-set_same, get_or-set_other, length-set, length-map, get_or_default}
 use Rattle.m3_base.specs.declared.setup_line.SetupLine.{SetupLine}
 use Rattle.m3_base.specs.Keyed as keyed
 use Rattle.m3_base.specs.Context.{Context}
-use Rattle.m3_base.specs.State.{Grant, same_act, is_number}
-use Rattle.m3_kernel.specs.Parts.{Home, home_act, Site, tile_of, has_program, programmed, Seating, Is_placed, Is_resting, Seat, Kernel}
+use Rattle.m3_base.specs.State.{same_act, is_number}
+use Rattle.m3_kernel.specs.Parts.{Home, home_act, Site, tile_of, has_program, programmed, Seat, Kernel}
 use Rattle.m3_kernel.specs.Sites.{with_home, with_homes, site_of}
 use Rattle.m3_kernel.specs.Kernel.{seat_of, is_placed_seat, is_leaving_seat, is_coming_seat, is_leaving_at}
 use Rattle.m3_kernel.specs.Seats.{seat_value, seats_of, new_seat, opened_as}
-use Rattle.m3_kernel.specs.Berths.{test, IsOnly, is_of, is_there_at, empty_berth, berth_at, yielded_in, yielded_of, AreTables}
+use Rattle.m3_kernel.specs.Berths.{IsOnly, is_of, is_there_at, empty_berth, berth_at, yielded_of, AreTables}
 use Rattle.m3_kernel.specs.States.{KernelAt, kernel_in, at_site, IsKept}
 use Rattle.m3_kernel.specs.declared.seat.Seat.{Seat as CodeSeat}
 use Rattle.m3_kernel.specs.declared.berth.Berth.{Berth}

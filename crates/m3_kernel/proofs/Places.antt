@@ -1,17 +1,16 @@
 -- The seat of an activity, by the table of places.
-use Rattle.std.proofs.Common.{◌≡◌, ℕ, zero, suc, ◌<◌, ◌≤◌, Bool, true, false, cond, List, [], ◌∷◌, length, get_or, Option, Some, None, refl, sym, ap, ◌∙◌, subst, arith}
+use Rattle.std.proofs.Common.{◌≡◌, ℕ, zero, suc, Bool, true, false, cond, List, [], ◌∷◌, get_or, Option, Some, None, refl, sym, ap, ◌∙◌, subst, arith}
 use Rattle.std.specs.Prelude.{slice_get, slice_set, ◌==◌}
 use Rattle.std.proofs.lemmas.Bool.Decides.{nat_tests}
-use Rattle.std.proofs.lemmas.List.{get_or_past}
 use Rattle.m3_base.specs.Keyed as keyed
 use Rattle.m3_base.specs.State.{same_act}
 use Rattle.m3_kernel.specs.Parts.{Seat, Kernel}
-use Rattle.m3_kernel.specs.Kernel.{seat_act, seat_of}
+use Rattle.m3_kernel.specs.Kernel.{seat_act}
 use Rattle.m3_kernel.specs.Berths.{test, IsOnly, is_of}
 use Rattle.m3_kernel.specs.Doing.{IsSeatOf, PlaceIs}
 use Rattle.m3_kernel.specs.States.{kernel_in, IsKept}
 use Rattle.m3_kernel.specs.declared.state.State.{State}
-use Rattle.m3_kernel.proofs.Only.{first_by, at_place, pick, first_only, only_here, only_beside}
+use Rattle.m3_kernel.proofs.Only.{first_by, pick, first_only, only_here, only_beside}
 
 pub find_first : (a : ℕ) (xs : List Seat) → keyed.find seat_act same_act a xs ≡ first_by (is_of a) xs
 find_first a [] = refl

@@ -1,15 +1,15 @@
 -- The tables after a seat has changed.
-use Rattle.std.proofs.Common.{◌≡◌, ℕ, zero, suc, ◌+◌, ◌<◌, ◌≤◌, Bool, true, false, cond, List, [], ◌∷◌, ◌++◌, length, map, get_or, set, Option, Some, None, refl, sym, ap, ◌∙◌, subst, arith, ⊎_elim}
+use Rattle.std.proofs.Common.{◌≡◌, ℕ, ◌<◌, Bool, true, false, cond, List, length, get_or, Option, Some, None, refl, sym, ap, ◌∙◌, subst, arith, ⊎_elim}
 use Rattle.std.specs.Prelude.{slice_get, slice_set, ◌==◌, ◌&&◌, ◌||◌}
 use Rattle.std.proofs.lemmas.Bool.Decides.{nat_tests}
 use Rattle.std.proofs.lemmas.Bool.{cases_eq}
 use Rattle.std.proofs.lemmas.List.{get_or-set_same, get_or-set_other, length-set}
 use Rattle.m3_base.specs.State.{same_act, is_number}
-use Rattle.m3_kernel.specs.Parts.{Site, tile_of, Away, Seating, Is_placed, Is_leaving, Is_resting, Is_coming, Seat, Kernel}
+use Rattle.m3_kernel.specs.Parts.{Site, tile_of, Away, Seating, Is_placed, Is_leaving, Is_resting, Is_coming, Seat}
 use Rattle.m3_kernel.specs.Kernel.{is_placed_seat, is_leaving_seat, is_coming_seat, is_leaving_at}
 use Rattle.m3_kernel.specs.Berths.{test, IsOnly, is_of, is_there_at, empty_berth, berth_at, AreTables}
 use Rattle.m3_kernel.specs.declared.berth.Berth.{Berth}
-use Rattle.m3_kernel.proofs.Only.{get_set, only_here, only_kept, only_gained, only_lost}
+use Rattle.m3_kernel.proofs.Only.{get_set, only_kept, only_gained, only_lost}
 
 -- it is at its tile, and no other
 pub same_tile : (h : Site) (t : ℕ) (x y : Seat) → y.act ≡ x.act → (tile_of h y.act == t) ≡ (tile_of h x.act == t)

@@ -1,9 +1,8 @@
 -- Who comes is restored.
-use Rattle.std.proofs.Common.{◌≡◌, ℕ, ◌<◌, Bool, true, false, cond, List, [], ◌∷◌, ◌++◌, length, get_or, set, Option, Some, None, refl, sym, ap, ◌∙◌, subst, arith}
-use Rattle.std.specs.Prelude.{slice_get, slice_set, ◌==◌, ◌||◌}
+use Rattle.std.proofs.Common.{◌≡◌, ℕ, ◌<◌, false, List, [], ◌∷◌, ◌++◌, length, get_or, set, Option, Some, None, sym, ap, ◌∙◌, subst, arith}
+use Rattle.std.specs.Prelude.{◌||◌}
 use Rattle.std.proofs.lemmas.List.{map-set, length-set, get_or_default}
 use Rattle.m3_base.specs.declared.event.Said.{Said}
-use Rattle.m3_base.specs.declared.event.Outcome.{Outcome}
 use Rattle.m3_core.specs.declared.parcel.Emit.{Emit}
 use Rattle.m3_core.specs.declared.parcel.Parcel.{Parcel as CodeParcel}
 use Rattle.m3_kernel.specs.Parts.{Site, tile_of, Parcel, Restore, Seating, Is_placed, Is_coming, Seat, Kernel, Deed}
@@ -12,7 +11,7 @@ use Rattle.m3_kernel.specs.Kernel.{with_seat, with_yielded, seated, is_placed_se
 use Rattle.m3_kernel.specs.Seats.{seat_value, seats_of, Restores}
 use Rattle.m3_kernel.specs.Berths.{empty_berth, AreTables, yielded_in, yielded_of}
 use Rattle.m3_kernel.specs.States.{kernel_in, IsKept}
-use Rattle.m3_kernel.specs.Doing.{Does, due_in, IsDue}
+use Rattle.m3_kernel.specs.Doing.{Does, IsDue}
 use Rattle.m3_kernel.specs.declared.done.Done.{Done}
 use Rattle.m3_kernel.specs.declared.seat.Seat.{Seat as CodeSeat}
 use Rattle.m3_kernel.specs.declared.berth.Berth.{Berth}

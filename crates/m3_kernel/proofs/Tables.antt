@@ -1,16 +1,15 @@
 -- What the tables say of the seats.
-use Rattle.std.proofs.Common.{◌≡◌, ℕ, zero, suc, ◌+◌, ◌<◌, ◌≤◌, Bool, true, false, cond, List, [], ◌∷◌, ◌++◌, length, map, get_or, Option, Some, None, refl, sym, ap, ◌∙◌, subst, arith}
-use Rattle.std.specs.Prelude.{slice_get, slice_set, ◌==◌, ◌&&◌, ◌||◌, option_map, is_some}
+use Rattle.std.proofs.Common.{◌≡◌, ℕ, ◌<◌, Bool, true, false, cond, List, [], ◌∷◌, length, get_or, Option, Some, None, refl, sym, ap, ◌∙◌, subst, arith}
+use Rattle.std.specs.Prelude.{slice_get, ◌==◌, ◌&&◌, ◌||◌, option_map, is_some}
 use Rattle.std.specs.List.{list_any}
 use Rattle.std.proofs.lemmas.Bool.Decides.{nat_tests}
 use Rattle.std.proofs.lemmas.List.{length-map}
 use Rattle.std.proofs.lemmas.Option.{slice_get-map, slice_get-get_or, slice_get_within}
-use Rattle.m3_base.specs.State.{is_number}
 use Rattle.m3_kernel.specs.Parts.{Site, tile_of, Away, Seating, Is_placed, Is_leaving, Is_resting, Is_coming, Seat, Kernel}
 use Rattle.m3_kernel.specs.Kernel.{is_placed_seat, is_leaving_seat, is_coming_seat, is_due_seat, first_due, is_leaving_at, placed_at, is_moving_at}
 use Rattle.m3_kernel.specs.Seats.{seat_value, seats_of, place_of}
 use Rattle.m3_kernel.specs.declared.seat.Place.{Place}
-use Rattle.m3_kernel.specs.Berths.{test, IsOnly, is_of, is_there_at, berth_at, AreTables}
+use Rattle.m3_kernel.specs.Berths.{test, IsOnly, is_there_at, berth_at}
 use Rattle.m3_kernel.specs.States.{kernel_in, IsKept}
 use Rattle.m3_kernel.specs.Doing.{due_in, IsDue, leaver_in, IsLeaver}
 use Rattle.m3_kernel.specs.declared.seat.Seat.{Seat as CodeSeat}
@@ -199,9 +198,6 @@ module _ (s : State) (kept : IsKept s) (t : ℕ) where
 
     -- ---- who leaves
 
-    is_placed_by : (w : Seating) → (w ≡ Is_placed) → is_placed_seat w ≡ true
-    is_placed_by w e = ap is_placed_seat e
-
     place_or : (w : Seating) → (place_of w ≡ Place.Placed → ⊥) → is_placed_seat w ≡ false
     place_or Is_placed e = absurd (e refl)
     place_or Is_leaving e = refl
@@ -245,5 +241,5 @@ module _ (s : State) (kept : IsKept s) (t : ℕ) where
           home = home_here;
           nobody = e;
           there = g;
-          leaves = ap (λ b. cond b None (placed_at h t k.seats)) (none_any (is_moving_at h t) k.seats (still e q)) ∙ placed_is true (is_placed_by x.seating q);
+          leaves = ap (λ b. cond b None (placed_at h t k.seats)) (none_any (is_moving_at h t) k.seats (still e q)) ∙ placed_is true (ap is_placed_seat q);
         }

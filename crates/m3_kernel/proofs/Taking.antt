@@ -1,7 +1,7 @@
 -- Yield and Saved, as the kernel takes them.
-use Rattle.std.proofs.Common.{◌≡◌, ℕ, ◌<◌, Bool, true, false, cond, List, [], ◌∷◌, ◌++◌, length, get_or, set, Option, Some, None, refl, sym, ap, ◌∙◌, subst, arith}
-use Rattle.std.specs.Prelude.{slice_get, slice_set, ◌==◌, ◌&&◌, ◌||◌, not}
-use Rattle.std.proofs.lemmas.List.{map-set, length-set, get_or_default}
+use Rattle.std.proofs.Common.{◌≡◌, ℕ, ◌<◌, Bool, true, false, cond, List, [], length, get_or, set, Some, None, refl, sym, ap, ◌∙◌, subst, arith}
+use Rattle.std.specs.Prelude.{◌&&◌, ◌||◌, not}
+use Rattle.std.proofs.lemmas.List.{map-set, get_or_default}
 use Rattle.m3_base.specs.declared.event.Said.{Said}
 use Rattle.m3_base.specs.Context.{Context}
 use Rattle.m3_kernel.specs.Parts.{Site, tile_of, has_program, Seating, Is_placed, Is_leaving, Is_resting, Is_coming, Seat, Kernel, Deed, says, dropped}
@@ -17,7 +17,7 @@ use Rattle.m3_kernel.specs.declared.state.State.{State}
 use Rattle.m3_kernel.proofs.Switching.{same_seat}
 use Rattle.m3_kernel.proofs.Changing.{kernel_now}
 use Rattle.m3_kernel.proofs.Kernels.{seats_set, yielded_kept}
-use Rattle.m3_kernel.proofs.Reseating.{tables_rest, tables_berths, leaving_same, there_same}
+use Rattle.m3_kernel.proofs.Reseating.{tables_rest}
 use Rattle.m3_kernel.proofs.Tables.{within_seats, seat_here}
 
 leaving_not : (w : Seating) → (place_of w ≡ Place.Leaving → ⊥) → is_leaving_seat w ≡ false
@@ -31,12 +31,6 @@ at_tile Is_placed e f = refl
 at_tile Is_leaving e f = refl
 at_tile (Is_resting y) e f = absurd (e refl)
 at_tile (Is_coming y) e f = absurd (f refl)
-
-pub leaving_if : (w : Seating) → place_of w ≡ Place.Leaving → w ≡ Is_leaving
-leaving_if Is_placed e = absurd (cc)
-leaving_if Is_leaving e = refl
-leaving_if (Is_resting y) e = absurd (cc)
-leaving_if (Is_coming y) e = absurd (cc)
 
 pub leaving_there : (k : Kernel) (a at : ℕ) (place : IsSeatOf k a at) → IsLeavingAt k at → place.seat.seating ≡ Is_leaving
 leaving_there k a at place l =

@@ -1,23 +1,20 @@
 -- The front of a hold list is applied.
-use Rattle.std.proofs.Common.{◌≡◌, ℕ, ◌<◌, Bool, true, false, cond, List, [], ◌∷◌, ◌++◌, length, get_or, set, Option, Some, None, refl, sym, ap, ◌∙◌, subst, arith}
-use Rattle.std.specs.Prelude.{slice_get, slice_set, ◌==◌, ◌&&◌, ◌||◌, not}
+use Rattle.std.proofs.Common.{◌≡◌, ℕ, Bool, true, false, cond, List, [], ◌∷◌, Option, Some, None, refl, sym, ap, ◌∙◌, subst, arith}
+use Rattle.std.specs.Prelude.{◌&&◌, not}
 use Rattle.std.proofs.lemmas.Bool.Decides.{nat_tests}
-use Rattle.std.proofs.lemmas.Option.{slice_get_within}
 use Rattle.m3_base.specs.declared.event.IdleWhy.{IdleWhy}
 use Rattle.m3_base.specs.declared.packet.Packet.{Packet}
-use Rattle.m3_base.specs.Keyed as keyed
 use Rattle.m3_base.specs.Context.{Context}
 use Rattle.m3_base.specs.Arrive.{Arrived, arrive}
 use Rattle.m3_base.specs.Fits.{fits, arrive_fit}
 use Rattle.m3_base.specs.Places.{target}
 use Rattle.m3_base.specs.State.{same_act}
 use Rattle.m3_base.proofs.Keyed.{find-replaced_other}
-use Rattle.m3_kernel.specs.Parts.{Site, tile_of, has_program, Parcel, Away, Seating, Is_placed, Is_leaving, Is_resting, Is_coming, Seat, Kernel, Deed, is_idle, closed_out}
-use Rattle.m3_kernel.specs.Kernel.{seat_act, seat_of, seat_for, with_seat, join_ready, Routed, route, route_to, answer_routed, tended_by, tend_arrived, arrived_context, after_packet, tend_away, tend_front, tend_seat, tend_by, kernel_tend, is_placed_seat, is_leaving_seat, is_coming_seat}
-use Rattle.m3_kernel.specs.Came.{answers_to, arrival_of}
-use Rattle.m3_kernel.specs.Seats.{seat_value, place_of, away_in, first, fitting, fitting_at, sits, Met}
-use Rattle.m3_kernel.specs.States.{kernel_in, IsKept}
-use Rattle.m3_kernel.specs.Doing.{IsSeatOf, IsAwayAt, NoBack}
+use Rattle.m3_kernel.specs.Parts.{Site, tile_of, has_program, Away, Seating, Is_placed, Is_leaving, Is_resting, Is_coming, Seat, Kernel, Deed, is_idle}
+use Rattle.m3_kernel.specs.Kernel.{seat_act, seat_of, seat_for, with_seat, join_ready, route, route_to, answer_routed, tended_by, tend_arrived, arrived_context, after_packet, tend_away, tend_front, tend_seat, tend_by, kernel_tend}
+use Rattle.m3_kernel.specs.Came.{arrival_of}
+use Rattle.m3_kernel.specs.Seats.{place_of, away_in, first, fitting_at, sits, Met}
+use Rattle.m3_kernel.specs.Doing.{NoBack}
 use Rattle.m3_kernel.specs.declared.came.Came.{Came}
 use Rattle.m3_kernel.specs.declared.seat.Place.{Place}
 use Rattle.m3_kernel.proofs.Hearing.{IsAnswerTo, arrive_answers}
@@ -73,26 +70,8 @@ away_if (Is_coming y) e f = (y, refl)
 
 -- where it is away, the tend is of the front, as it sits
 module _ (h : Site) (k : Kernel) (programs : (a : ℕ) → has_program h a ≡ false) (x : Seat) where
-  abbrev Stays : Deed Kernel → Type 0
-  Stays d = d ≡ is_idle IdleWhy.EmptyHold k
-
   fit_by : (c : Context) (p : Packet) (b : Bool) → fits c p ≡ b → arrive_fit c p ≡ cond b (arrive c p) None
   fit_by c p b e = ap (λ t. cond t (arrive c p) None) e
-
-  fitting_by : (y : Away) (p : Packet) (b : Bool) → fits y.context p ≡ b → cond b (Some p) None ≡ None → arrive_fit y.context p ≡ None
-  fitting_by y p true e f = absurd (cc)
-  fitting_by y p false e f = fit_by y.context p false e
-
-  front_idle : (y : Away) (w : Away → Seating) (ready : Bool) (ps : List Packet) → fitting_at (Some y) (first ps) ≡ None → tend_front h k x ps y w ready ≡ is_idle IdleWhy.EmptyHold k
-  front_idle y w ready [] e = refl
-  front_idle y w ready (p ∷ ps) e = away_none h k programs x p ps y w ready (fitting_by y p (fits y.context p) refl e)
-
-  -- nothing that fits is held
-  pub unfit_idle : (w : Seating) (y : Away) → away_in w ≡ Some y → fitting_at (away_in w) (first x.hold) ≡ None → tend_seat h k x w ≡ is_idle IdleWhy.EmptyHold k
-  unfit_idle Is_placed y e f = absurd (cc)
-  unfit_idle Is_leaving y e f = absurd (cc)
-  unfit_idle (Is_resting z) y e f = front_idle z Is_resting true x.hold f
-  unfit_idle (Is_coming z) y e f = front_idle z Is_coming false x.hold f
 
   -- what fits is answered to nobody that has a seat
   module _ (found : seat_of x.act k ≡ Some x) where

@@ -1,5 +1,5 @@
 -- The kernel's tables: where each activity's seat is, and for each tile who leaves and who is there or comes.
-use Rattle.std.specs.Prelude.{◌≡◌, ℕ, Bool, true, false, ◌&&◌, ◌||◌, ◌==◌, List, length, map, slice_get, slice_index_or, Option, Some, None}
+use Rattle.std.specs.Prelude.{◌≡◌, ℕ, Bool, false, ◌&&◌, ◌||◌, ◌==◌, List, length, map, slice_get, slice_index_or, Option, Some, None}
 use Rattle.m3_base.specs.State.{same_act, is_number}
 use Rattle.m3_kernel.specs.Parts.{Site, tile_of, Seat}
 use Rattle.m3_kernel.specs.Kernel.{seat_act, is_placed_seat, is_coming_seat, is_leaving_at}

@@ -1,5 +1,5 @@
 -- What the kernel's code answers, as the local steps have it.
-use Rattle.std.specs.Prelude.{◌≡◌, ℕ, ◌<◌, Bool, true, List, length, [], ◌∷◌, ◌++◌, slice_get, Option, Some, None, Result, Ok, Err, is_none, if◌then◌else◌}
+use Rattle.std.specs.Prelude.{◌≡◌, ℕ, ◌<◌, Bool, true, List, length, [], ◌++◌, slice_get, Option, Some, None, Result, Ok, Err, is_none, if◌then◌else◌}
 use Rattle.std.specs.List.{list_any}
 use Rattle.m3_base.specs.declared.packet.Packet.{Packet}
 use Rattle.m3_base.specs.declared.event.Said.{Said}
@@ -10,9 +10,9 @@ use Rattle.m3_core.specs.declared.parcel.Heard.{Heard}
 use Rattle.m3_kernel.specs.Parts.{Site, tile_of, Parcel, Away, Is_placed, Is_leaving, Is_resting, Is_coming, Seat, Kernel, Deed, says, dropped, closed_out}
 use Rattle.m3_kernel.specs.Naming.{is_named}
 use Rattle.m3_kernel.specs.Parcels.{out_of}
-use Rattle.m3_kernel.specs.Kernel.{seat_of, is_leaving_at, first_due, is_moving_at, placed_at, route_to, switch, switched, take_data, answer_routed}
+use Rattle.m3_kernel.specs.Kernel.{seat_of, is_leaving_at, first_due, is_moving_at, placed_at, route_to, switch, take_data, answer_routed}
 use Rattle.m3_kernel.specs.Came.{answers_to}
-use Rattle.m3_kernel.specs.Seats.{away_in, Hears, fitting}
+use Rattle.m3_kernel.specs.Seats.{away_in, Hears}
 use Rattle.m3_kernel.specs.Berths.{IsOnly, is_of, berth_at}
 use Rattle.m3_kernel.specs.States.{kernel_in, CanRoute}
 use Rattle.m3_kernel.specs.declared.state.State.{State}

@@ -1,11 +1,10 @@
 -- What the kernel's readers give, and how it opens.
-use Rattle.std.specs.Prelude.{◌≡◌, ℕ, Bool, true, false, List, [], ◌∷◌, ◌++◌, replicate, Option, Some, None, is_some}
+use Rattle.std.specs.Prelude.{◌≡◌, ℕ, Bool, false, List, [], ◌∷◌, ◌++◌, replicate, Option, Some, None, is_some}
 use Rattle.std.specs.List.{list_any}
 use Rattle.m3_base.specs.declared.packet.Packet.{Packet}
 use Rattle.m3_base.specs.State.{Grant}
 use Rattle.m3_base.specs.Context.{Context}
-use Rattle.m3_kernel.specs.Parts.{Site, tile_of, Seating, Seat, Kernel}
-use Rattle.m3_kernel.specs.Kernel.{seat_of}
+use Rattle.m3_kernel.specs.Parts.{Site, tile_of, Seat, Kernel}
 use Rattle.m3_kernel.specs.Seats.{seat_value, away_in, context_in, first, new_seat}
 use Rattle.m3_kernel.specs.Came.{answers_to}
 use Rattle.m3_kernel.specs.declared.seat.Seat.{Seat as CodeSeat}

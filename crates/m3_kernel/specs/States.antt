@@ -1,5 +1,5 @@
 -- The kernel's data, as a kernel.
-use Rattle.std.specs.Prelude.{◌≡◌, ℕ, Bool, false, List, [], replicate, slice_get, Option, Some, None}
+use Rattle.std.specs.Prelude.{◌≡◌, ℕ, false, List, [], replicate, slice_get, Some}
 use Rattle.m3_kernel.specs.Parts.{Site, has_program, Seat, Kernel}
 use Rattle.m3_kernel.specs.Seats.{seats_of, HasRoom}
 use Rattle.m3_kernel.specs.Berths.{AreTables, yielded_of}

@@ -9,3 +9,5 @@ pub mod kernel;
 pub mod seat;
 pub mod site;
 mod state;
+#[cfg(test)]
+mod tests;

@@ -1,4 +1,4 @@
-use Rattle.std.proofs.Common.{◌≡◌, ℕ, ◌∙◌, refl, sym, ap, subst}
+use Rattle.std.proofs.Common.{◌∙◌, refl, sym, ap}
 use Rattle.std.specs.Vec.{with_item}
 use Rattle.m3_kernel.specs.Parts.{tile_of, Site}
 use Rattle.m3_kernel.specs.Parcels.{out_of}

@@ -1,4 +1,4 @@
-use Rattle.std.proofs.Common.{◌≡◌, ℕ, ◌<◌, true, false, length, get_or, Some, None, sym, ap, ◌∙◌, subst, refl, rules}
+use Rattle.std.proofs.Common.{◌≡◌, ℕ, ◌<◌, false, length, Some, None, sym, ap, ◌∙◌, subst, rules}
 use Rattle.std.specs.Prelude.{is_some, Option}
 use Rattle.m3_kernel.specs.Seats.{seat_value}
 use Rattle.m3_kernel.specs.Berths.{berth_at}

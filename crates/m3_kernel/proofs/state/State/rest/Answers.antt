@@ -1,6 +1,6 @@
-use Rattle.std.proofs.Common.{◌≡◌, ℕ, ◌<◌, ◌∙◌, Some, [], sym, ap, subst}
+use Rattle.std.proofs.Common.{◌≡◌, ℕ, ◌<◌, ◌∙◌, [], sym, ap, subst}
 use Rattle.m3_base.specs.declared.event.Said.{Said}
-use Rattle.m3_kernel.specs.Parts.{tile_of, Is_leaving, Seat, Kernel}
+use Rattle.m3_kernel.specs.Parts.{tile_of, Kernel}
 use Rattle.m3_kernel.specs.Kernel.{seat_of, then_restore, take_saved}
 use Rattle.m3_kernel.specs.States.{kernel_in}
 use Rattle.m3_kernel.proofs.Taking.{leaving_there, rest_tables, rest_is, rested_kernel}

@@ -1,7 +1,6 @@
-use Rattle.std.proofs.Common.{◌≡◌, ℕ, ◌<◌, true, false, List, ◌∷◌, ◌++◌, [], ◌∙◌, length, sym, ap, subst, rules}
-use Rattle.std.specs.Prelude.{is_none, Bool}
-use Rattle.m3_kernel.specs.Parts.{tile_of, Seat}
-use Rattle.m3_kernel.specs.States.{at_site, kernel_in}
+use Rattle.std.proofs.Common.{◌≡◌, ℕ, ◌<◌, true, false, ◌∷◌, ◌++◌, [], ◌∙◌, length, sym, ap, subst, rules}
+use Rattle.std.specs.Prelude.{is_none}
+use Rattle.m3_kernel.specs.Parts.{tile_of}
 use Rattle.m3_kernel.proofs.Opening.{seat_rests, seat_first, seat_opened}
 use Rattle.m3_kernel.proofs.state.State.seat.Goals as goal
 

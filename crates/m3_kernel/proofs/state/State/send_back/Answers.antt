@@ -1,9 +1,4 @@
-use Rattle.std.proofs.Common.{◌≡◌, ◌++◌, ◌∙◌, Some, None, sym, ap, subst}
-use Rattle.std.specs.Prelude.{is_none, Option}
-use Rattle.m3_base.specs.declared.packet.Packet.{Packet}
-use Rattle.m3_kernel.specs.Kernel.{route_to, seat_for, answer_routed}
-use Rattle.m3_kernel.specs.Parcels.{out_of}
-use Rattle.m3_kernel.specs.Came.{AtMostOne}
+use Rattle.std.proofs.Common.{subst}
 use Rattle.m3_kernel.specs.States.{kernel_in}
 use Rattle.m3_kernel.specs.Doing.{AnswersBy, IsAnswer}
 use Rattle.m3_kernel.specs.declared.state.tend.Back.{Back}

@@ -1,4 +1,4 @@
-use Rattle.std.proofs.Common.{◌≡◌, ℕ, ◌<◌, ◌∙◌, sym, ap, subst}
+use Rattle.std.proofs.Common.{ℕ, ◌<◌, ◌∙◌, subst}
 use Rattle.m3_kernel.proofs.Switching.{tables_now, switch_does}
 use Rattle.m3_kernel.proofs.state.State.swap.Goals as goal
 

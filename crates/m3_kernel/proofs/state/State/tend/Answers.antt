@@ -1,7 +1,7 @@
-use Rattle.std.proofs.Common.{◌≡◌, ℕ, ◌∙◌, Some, None, sym, ap, subst}
+use Rattle.std.proofs.Common.{ℕ, ◌∙◌, Some, None, sym, ap, subst}
 use Rattle.m3_base.specs.declared.event.Said.{Said}
 use Rattle.m3_base.specs.declared.event.IdleWhy.{IdleWhy}
-use Rattle.m3_kernel.specs.Kernel.{seat_of, kernel_tend}
+use Rattle.m3_kernel.specs.Kernel.{kernel_tend}
 use Rattle.m3_kernel.specs.Seats.{seat_value}
 use Rattle.m3_kernel.specs.States.{kernel_in}
 use Rattle.m3_kernel.specs.Doing.{IsSeatOf}

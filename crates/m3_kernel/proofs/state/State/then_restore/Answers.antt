@@ -1,4 +1,4 @@
-use Rattle.std.proofs.Common.{◌≡◌, ℕ, ◌<◌, ◌∙◌, length, subst}
+use Rattle.std.proofs.Common.{ℕ, ◌<◌, ◌∙◌, subst}
 use Rattle.m3_kernel.proofs.Tables.{within_seats}
 use Rattle.m3_kernel.proofs.Restoring.{restore_tables, restore_does}
 use Rattle.m3_kernel.proofs.state.State.then_restore.Goals as goal
