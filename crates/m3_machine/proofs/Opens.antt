@@ -11,7 +11,7 @@ use Rattle.m3_base.specs.Places.{Places, Actor}
 use Rattle.m3_merge.specs.Parts.{Each}
 use Rattle.m3_kernel.specs.Parts.{Home, Site, Parcel, Seat}
 use Rattle.m3_kernel.specs.Naming.{is_home}
-use Rattle.m3_machine.specs.Machine.{Machine, empty_tile, tile_at, new_stay, first_there, opened_seating, joined_ready, is_there, seated_at_opening, with_seats}
+use Rattle.m3_machine.specs.Machine.{empty_tile}
 use Rattle.m3_machine.specs.At.{each, on_links}
 use Rattle.m3_machine.specs.Sound.{IsThere}
 use Rattle.m3_machine.proofs.Lines.{home_in}
@@ -21,7 +21,6 @@ use Rattle.m3_base.specs.Sums.{total}
 use Rattle.m3_base.specs.State.{Grant}
 use Rattle.m3_base.specs.Obeys.{AllObey}
 use Rattle.m3_base.specs.Opening.{with_line, with_lines}
-use Rattle.m3_machine.specs.Machine.{empty_tiles, link_at, seated_all, opened_machine}
 use Rattle.m3_kernel.specs.Sites.{with_home, site_of}
 use Rattle.m3_kernel.specs.Sites as sites
 use Rattle.m3_machine.specs.At.{held_by, closed_from}
