@@ -1,5 +1,5 @@
 -- A machine's journal follows the events that it makes.
-use Rattle.std.proofs.Common.{◌≡◌, ℕ, ◌<◌, ◌≤◌, Bool, true, false, List, [], get_or, ◌∷◌, ◌++◌, length, map, append_assoc, append-nil, Some, None, refl, sym, ap, ◌∙◌, subst, arith}
+use Rattle.std.proofs.Common.{◌≡◌, ℕ, ◌<◌, ◌≤◌, Bool, true, false, List, [], get_or, ◌∷◌, ◌++◌, length, append_assoc, append-nil, Some, None, refl, sym, ap, ◌∙◌, subst, arith}
 use Rattle.std.specs.Prelude.{not, ◌&&◌, ◌||◌, nat_lt}
 use Rattle.std.proofs.lemmas.Bool.Decides.{nat_tests}
 use Rattle.std.proofs.lemmas.List.{map-append}
@@ -7,17 +7,22 @@ use Rattle.std.proofs.lemmas.List.Elements.{All-tail}
 use Rattle.m3_base.specs.declared.event.Event.{Event}
 use Rattle.m3_base.specs.declared.event.Entry.{Entry}
 use Rattle.m3_base.specs.declared.order.Order.{Order}
+use Rattle.m3_base.specs.declared.journal.AuditLine.{AuditLine}
+use Rattle.m3_base.specs.Audit.{audit_lines}
 use Rattle.m3_base.specs.State.{State}
 use Rattle.m3_base.specs.Places.{Places, opening_places}
-use Rattle.m3_base.specs.Entries.{IsRun}
+use Rattle.m3_base.specs.Entries.{IsRun, after}
 use Rattle.m3_base.specs.Opening.{opening}
 use Rattle.m3_base.specs.Setup.{SetupValue, IsValid, is_machine}
+use Rattle.m3_base.proofs.Replies.{seen_given}
 use Rattle.m3_machine.specs.At.{at, places_of}
-use Rattle.m3_machine.specs.Kept.{IsKept, IsWithin, PlacesRun}
-use Rattle.m3_machine.specs.Whole.{Whole, Steps, entry, site, opened, opened_whole, IsServed, IsOfSetup as HasAct}
+use Rattle.m3_machine.specs.Closing.{NobodyAway, IsCounted, ideal_lines}
+use Rattle.m3_machine.specs.Kept.{IsKept, PlacesRun, Ran}
+use Rattle.m3_machine.specs.Whole.{Whole, Steps, entry, site, opened, opened_whole, IsServed}
 use Rattle.m3_machine.specs.Machine.{mstep}
 use Rattle.m3_machine.proofs.Contexts.{first_free}
 use Rattle.m3_machine.proofs.Declared.{declared_home}
+use Rattle.m3_machine.proofs.FewFlights.{journal_few}
 use Rattle.m3_machine.proofs.Kept.{means}
 use Rattle.m3_machine.proofs.Runs.{none_ran, more_ran}
 use Rattle.m3_machine.proofs.Valid.{opens_as}
@@ -81,6 +86,16 @@ named_of s v es named k d within = named_one s v (get_or es k d) (named k d with
 
 -- ---- from the opening
 
+-- the lines that close the journal of a machine that was opened and made these entries
+audit_from : (s : SetupValue) (v : IsValid s) (made : List Entry) (last : Whole) (audit : List AuditLine) → Ran (site s) (opened s) made last.machine → last.setup ≡ s → last.entries ≡ made → length last.entries ≤ 2097152
+    → (IsCounted last → audit ≡ ideal_lines last) → NobodyAway (opened s) → audit ≡ audit_lines s.tiles (after (opening s.memory s.lines) made) (places_of (site s) last.machine) []
+audit_from s v made last audit ran same entries few is nobody =
+    let reach : after (opening s.memory s.lines) made ≡ at last.machine = ap (λ (x : State). after x made) (sym (opens_as s v).0) ∙ ran.reaches in
+    let made_few : length made ≤ 2097152 = subst (λ (es : List Entry). length es ≤ 2097152) entries few in
+    let flights : length (at last.machine).flights ≤ 4294967295 = subst (λ (x : State). length x.flights ≤ 4294967295) reach (journal_few s.memory s.lines made made_few) in
+    is (record { kept = subst (λ (x : SetupValue). IsKept (site x) last.machine) (sym same) ran.kept; nobody = subst (λ (x : SetupValue). NobodyAway (opened x)) (sym same) nobody; flights_few = flights })
+    ∙ (λ k. audit_lines (same k).tiles (sym reach k) (places_of (site (same k)) last.machine) [])
+
 pub text_is : (s : SetupValue) (es : List Event) (text : List ℕ) (first last : Whole) → IsValid s → first ≡ opened_whole s → Follows first es last → IsTextAt last text → IsTextOf s es text
 text_is s es text first last v is f t =
     let g : Follows (opened_whole s) es last = subst (λ (w : Whole). Follows w es last) is f in
@@ -94,5 +109,7 @@ text_is s es text first last v is f t =
           subst (λ (x : State). PlacesRun x (opening_places [] s.lines) g.made (places_of (site s) last.machine)) (opens_as s v).0 (
           subst (λ (p : Places). PlacesRun (at (opened s)) p g.made (places_of (site s) last.machine)) (opens_as s v).1 g.ran.places
           );
+      replies = λ a. seen_given a (opening s.memory s.lines) g.made (subst (λ (x : State). IsRun x g.made) (opens_as s v).0 g.ran.run);
+      audit_is = audit_from s v g.made last t.audit g.ran g.same g.added t.few t.audit_is;
       is_text = t.is_text ∙ ap (λ (x : SetupValue). journal_text x last.entries t.audit) g.same ∙ ap (λ (xs : List Entry). journal_text s xs t.audit) g.added;
     }

@@ -1,20 +1,22 @@
 -- What is written with each status, and when it comes.
-use Rattle.std.specs.Prelude.{◌≡◌, ◌⊎◌, ℕ, List, [], ◌∷◌, ◌++◌, map, Option, Some, None, Ok, Err, codes}
+use Rattle.std.specs.Prelude.{◌≡◌, ◌⊎◌, ◌≤◌, ℕ, length, List, [], ◌∷◌, ◌++◌, map, Option, Some, None, Ok, Err, codes}
 use Rattle.std.specs.List.{All}
 use Rattle.m3_base.specs.declared.event.Event.{Event}
 use Rattle.m3_base.specs.declared.event.Entry.{Entry}
 use Rattle.m3_base.specs.declared.journal.AuditLine.{AuditLine}
 use Rattle.m3_base.specs.Setup.{SetupValue}
-use Rattle.m3_base.specs.Entries.{IsRun}
+use Rattle.m3_base.specs.Audit.{audit_lines}
+use Rattle.m3_base.specs.Entries.{IsRun, after}
 use Rattle.m3_base.specs.Opening.{opening}
 use Rattle.m3_base.specs.Places.{Places, opening_places}
+use Rattle.m3_base.specs.Seen.{seen, given, steps_in}
 use Rattle.m3_base.specs.Causes.{Appends, AppendsSome, GivesMore}
-use Rattle.m3_machine.specs.Whole.{Whole, site, IsOfSetup as HasAct}
+use Rattle.m3_machine.specs.Closing.{NobodyAway, IsCounted, ideal_lines}
+use Rattle.m3_machine.specs.Whole.{Whole, site, opened, IsOfSetup as HasAct}
 use Rattle.m3_machine.specs.Kept.{IsWithin, PlacesRun, Ran}
 use Rattle.m3_script.specs.declared.script.Mode.{Mode}
 use Rattle.m3_script.specs.Scripts.{Refused, ScriptValue, script_of}
 use Rattle.m3_journal.specs.Texts.{journal_text}
-use Rattle.m3_cmd.specs.declared.words.Form.{Form}
 
 abbrev pub line_of : List ℕ → List ℕ
 line_of text = text ++ 10 ∷ []
@@ -56,10 +58,14 @@ pub record Follows (old : Whole) (events : List Event) (new : Whole) : Type 0 wh
 -- the text is that of this machine's journal
 pub record IsTextAt (m : Whole) (text : List ℕ) : Type 0 where
   pub audit : List AuditLine
+  pub audit_is : IsCounted m → audit ≡ ideal_lines m
+  pub few : length m.entries ≤ 2097152
   pub is_text : text ≡ journal_text m.setup m.entries audit
 
 -- the text is that of a journal of this setup: its entries have these events in their order, are a run of the ideal
--- machine from the setup's opening, each with just what its steps say, and move the places from those of the opening
+-- machine from the setup's opening, each with just what its steps say, and move the places from those of the opening;
+-- the replies that they print for each activity are just those that the steps give it; and the lines that close it are
+-- those of the state and the places that they reach
 pub record IsTextOf (setup : SetupValue) (events : List Event) (text : List ℕ) : Type 0 where
   pub entries : List Entry
   pub audit : List AuditLine
@@ -67,6 +73,8 @@ pub record IsTextOf (setup : SetupValue) (events : List Event) (text : List ℕ)
   pub follows : map event_of entries ≡ events
   pub run : IsRun (opening setup.memory setup.lines) entries
   pub places : PlacesRun (opening setup.memory setup.lines) (opening_places [] setup.lines) entries last
+  pub replies : (a : ℕ) → seen a (opening setup.memory setup.lines) entries ≡ given a (opening setup.memory setup.lines) (steps_in entries)
+  pub audit_is : NobodyAway (opened setup) → audit ≡ audit_lines setup.tiles (after (opening setup.memory setup.lines) entries) last []
   pub is_text : text ≡ journal_text setup entries audit
 
 -- the reader refuses the bytes
@@ -102,14 +110,6 @@ pub record IsScript (bytes : List ℕ) : Type 0 where
 -- what a run answers to these bytes: the journal of the script, or that they are none
 abbrev pub IsAnswerTo : List ℕ → List ℕ → Type 0
 IsAnswerTo bytes text = IsJournalOf bytes text ⊎ (IsNoScript bytes × (text ≡ bad_script_line))
-
--- what is to be written, by the form of the words: where the source's faults rose, where it gave more than the limit, and
--- else by its bytes
-abbrev pub IsOutput : Option Form → Type 0 → Option (List ℕ) → Option (List ℕ) → List ℕ → Type 0
-IsOutput None rose old new text = text ≡ usage_line
-IsOutput (Some Form.Run) rose old new text =
-    (rose × (text ≡ read_fault_line))
-    ⊎ ((GivesMore old new most_bytes × (text ≡ too_long_line)) ⊎ OfBytes old (λ bytes. IsAnswerTo bytes text))
 
 -- a prefix of such a text is written
 pub record WritesSome (Is : List ℕ → Type 0) (old new : Option (List ℕ)) : Type 0 where

@@ -11,5 +11,8 @@ words_of words = map string_bytes words
 
 -- the form that the words are; none where they are no form
 abbrev pub form_of : List (List ℕ) → Option Form
-form_of (word ∷ []) = if bytes_eq word (codes "run") then Some Form.Run else None
+form_of (word ∷ []) =
+    if bytes_eq word (codes "run") then Some Form.Run
+    else if bytes_eq word (codes "show") then Some Form.Show
+    else None
 form_of words = None

@@ -2,6 +2,7 @@
 #![tactic(auto)]
 
 mod run;
+mod show;
 mod words;
 
 pub use run::run_words;

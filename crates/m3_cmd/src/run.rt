@@ -8,9 +8,12 @@ ghost use Rattle.m3_script.specs.Rules.{AllNamed};
 ghost use Rattle.m3_script.specs.declared.script.Mode.{Mode};
 ghost use Rattle.m3_script.specs.Scripts.{script_of};
 ghost use Rattle.m3_cmd.specs.declared.words.Form.{Form};
+ghost use Rattle.m3_cmd.specs.Outputs.{IsOutput};
+ghost use Rattle.m3_cmd.specs.Show.{AreNoPackets, ArePackets, IsBadByte, IsShown, WritesAll};
 ghost use Rattle.m3_cmd.specs.Words.{form_of, words_of};
-ghost use Rattle.m3_cmd.specs.Statuses.{usage_line, read_fault_line, too_long_line, bad_script_line, most_bytes, event_of, AreOfSetup, Follows, IsTextAt, IsTextOf, IsNoScript, WritesJournal, WritesSome, IsScript, IsAnswerTo, IsOutput, IsOneOf, OfBytes};
+ghost use Rattle.m3_cmd.specs.Statuses.{usage_line, read_fault_line, too_long_line, bad_script_line, most_bytes, event_of, AreOfSetup, Follows, IsTextAt, IsTextOf, IsNoScript, WritesJournal, WritesSome, IsScript, IsAnswerTo, IsOneOf, OfBytes};
 
+use crate::show::show_input;
 use crate::words::{Form, read_form};
 use m3_base::event::Event;
 use m3_base::stream::{ReadRefusal, Sink, Source, read_all, write_all};
@@ -19,7 +22,7 @@ use m3_machine::machine::{Machine, StepRefusal};
 use m3_script::{Mode, Script, ScriptRefusal, parse};
 use std::alloc::{AllocError, Global};
 
-/// A script has at most this many bytes.
+/// An input has at most this many bytes.
 const MOST_BYTES: u32 = 1_048_576;
 
 const USAGE: &[u8] =
@@ -57,7 +60,7 @@ fn text_of(alloc: Global, script: Script) -> Result<Vec<u8>, StepRefusal>
 }
 
 /// Writes the bytes, and answers the status, or 4 where the sink failed.
-fn finish<K: Sink>(sink: &mut K, bytes: &[u8], status: u8) -> u8
+pub fn finish<K: Sink>(sink: &mut K, bytes: &[u8], status: u8) -> u8
     ensures written { result ≢ 4 → (result ≡ status) × Appends (K.written sink.old) (K.written sink.new) bytes.now }
     ensures fault { status ≢ 4 → result ≡ 4 → Rose (K.faults sink.old) (K.faults sink.new) × AppendsSome (K.written sink.old) (K.written sink.new) bytes.now }
 {
@@ -90,9 +93,9 @@ fn run_script<K: Sink>(alloc: Global, bytes: &[u8], sink: &mut K) -> u8
 
 /// Does what the words ask for: reads the source, writes to the sink, and answers the status:
 ///
-/// - 0: the script was run, and its journal is written;
+/// - 0: the script was run, and its journal is written, or the packets were read, and their lines are;
 /// - 1: the words are no form, and the usage line is written;
-/// - 2: the input is no script, and `bad script` is written;
+/// - 2: the input is no script, and `bad script` is written, or it is no packets, and the line of its first bad byte is;
 /// - 3: the source failed, and `read fault` is written;
 /// - 4: the sink failed, and a prefix of what was to be written is. It takes the place of any other status;
 /// - 5: no memory was left;
@@ -103,26 +106,33 @@ pub fn run_words<S: Source, K: Sink>(
     source: &mut S,
     sink: &mut K,
 ) -> u8
-    ensures journal { result ≡ 0 → OfBytes (S.left source.old) (λ bytes. WritesJournal bytes (K.written sink.old) (K.written sink.new)) }
+    ensures journal { form_of (words_of words.now) ≡ Some Form.Run → result ≡ 0 → OfBytes (S.left source.old) (λ bytes. WritesJournal bytes (K.written sink.old) (K.written sink.new)) }
+    ensures shown { form_of (words_of words.now) ≡ Some Form.Show → result ≡ 0 → OfBytes (S.left source.old) (λ bytes. WritesAll (IsShown bytes) (K.written sink.old) (K.written sink.new)) }
     ensures usage { result ≡ 1 → (form_of (words_of words.now) ≡ None) × Appends (K.written sink.old) (K.written sink.new) usage_line }
     ensures no_form { form_of (words_of words.now) ≡ None → (result ≡ 1) ⊎ (result ≡ 4) }
-    ensures script { result ≡ 2 → OfBytes (S.left source.old) IsNoScript × Appends (K.written sink.old) (K.written sink.new) bad_script_line }
+    ensures script { form_of (words_of words.now) ≡ Some Form.Run → result ≡ 2 → OfBytes (S.left source.old) IsNoScript × Appends (K.written sink.old) (K.written sink.new) bad_script_line }
+    ensures bad_byte { form_of (words_of words.now) ≡ Some Form.Show → result ≡ 2 → OfBytes (S.left source.old) (λ bytes. AreNoPackets bytes × WritesAll (IsBadByte bytes) (K.written sink.old) (K.written sink.new)) }
     ensures read { result ≡ 3 → Rose (S.faults source.old) (S.faults source.new) × Appends (K.written sink.old) (K.written sink.new) read_fault_line }
     ensures write { result ≡ 4 → Rose (K.faults sink.old) (K.faults sink.new) }
     ensures prefix { result ≡ 4 → WritesSome (IsOutput (form_of (words_of words.now)) (Rose (S.faults source.old) (S.faults source.new)) (S.left source.old) (S.left source.new)) (K.written sink.old) (K.written sink.new) }
     ensures long { result ≡ 8 → GivesMore (S.left source.old) (S.left source.new) most_bytes × Appends (K.written sink.old) (K.written sink.new) too_long_line }
-    ensures within { form_of (words_of words.now) ≡ Some Form.Run → result ≢ 4 → result ≢ 8 → GivesUpTo (S.left source.old) (S.left source.new) most_bytes }
+    ensures within { form_of (words_of words.now) ≢ None → result ≢ 4 → result ≢ 8 → GivesUpTo (S.left source.old) (S.left source.new) most_bytes }
     ensures complete { form_of (words_of words.now) ≡ Some Form.Run → OfBytes (S.left source.old) (λ bytes. IsScript bytes → length bytes ≤ most_bytes → IsOneOf (0 ∷ 3 ∷ 4 ∷ 5 ∷ []) result) }
     ensures refused { form_of (words_of words.now) ≡ Some Form.Run → OfBytes (S.left source.old) (λ bytes. IsNoScript bytes → length bytes ≤ most_bytes → IsOneOf (2 ∷ 3 ∷ 4 ∷ 5 ∷ []) result) }
+    ensures packets { form_of (words_of words.now) ≡ Some Form.Show → OfBytes (S.left source.old) (λ bytes. ArePackets bytes → length bytes ≤ most_bytes → IsOneOf (0 ∷ 3 ∷ 4 ∷ 5 ∷ []) result) }
+    ensures no_packets { form_of (words_of words.now) ≡ Some Form.Show → OfBytes (S.left source.old) (λ bytes. AreNoPackets bytes → length bytes ≤ most_bytes → IsOneOf (2 ∷ 3 ∷ 4 ∷ 5 ∷ []) result) }
     ensures statuses { IsOneOf (0 ∷ 1 ∷ 2 ∷ 3 ∷ 4 ∷ 5 ∷ 8 ∷ []) result }
 {
     match read_form(words) {
         None => finish(sink, USAGE, 1),
-        Some(Form::Run) => match read_all(alloc, source, MOST_BYTES) {
+        Some(form) => match read_all(alloc, source, MOST_BYTES) {
             Err(ReadRefusal::ReadFault) => finish(sink, b"read fault\n", 3),
             Err(ReadRefusal::TooLong) => finish(sink, b"too long\n", 8),
             Err(ReadRefusal::NoMemory) => 5,
-            Ok(bytes) => run_script(alloc, bytes.as_slice(), sink),
+            Ok(bytes) => match form {
+                Form::Run => run_script(alloc, bytes.as_slice(), sink),
+                Form::Show => show_input(alloc, bytes.as_slice(), sink),
+            },
         },
     }
 }

@@ -8,6 +8,8 @@ ghost use Rattle.m3_cmd.specs.Words.{form_of, words_of};
 pub enum Form {
     /// Run the script that is read.
     Run,
+    /// Show the packets that are read.
+    Show,
 }
 
 /// The form that the words are, or none.
@@ -16,6 +18,7 @@ pub fn read_form(words: &[String]) -> Option<Form>
 {
     match words {
         [word] if word.as_str() == "run" => Some(Form::Run),
+        [word] if word.as_str() == "show" => Some(Form::Show),
         _ => None,
     }
 }

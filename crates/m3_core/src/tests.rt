@@ -50,5 +50,10 @@ fn a_message_to_itself_lands(rt: HostRuntime) {
     assert!(rt; context.busy());
     assert_eq!(rt; context.held(GrantId::new(2)), Some(1));
     assert_eq!(rt; context.queued(GrantId::new(2)), 1);
+    let mut held = [0; 3];
+    let mut queued = [0; 3];
+    context.count(&mut held, &mut queued);
+    assert_eq!(rt; held, [0, 0, 1]);
+    assert_eq!(rt; queued, [0, 0, 1]);
     assert_eq!(rt; context.front(inbox).map(|m| m.header.label), Some(7));
 }

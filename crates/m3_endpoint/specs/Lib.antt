@@ -8,3 +8,4 @@ pub mod Places
 pub mod ReceiveView
 pub mod Receive
 pub mod Records
+pub mod Counts

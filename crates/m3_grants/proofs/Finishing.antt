@@ -8,8 +8,8 @@ use Rattle.m3_base.specs.State.{Done, Grant, grant_in, parent_of, holder, holder
 use Rattle.m3_base.specs.Grants.{is_open_child, change_grant}
 use Rattle.m3_grants.specs.declared.node.Node.{Node}
 use Rattle.m3_grants.specs.Tree.{holds_in, with_done, is_sent_in, is_undone_in}
-use Rattle.m3_grants.specs.Nodes.{as_grant, grants_of, grant_of, IsTree, IsRange, Counts, with_node, under_parent, one_less, done_node, is_before, is_rightful, is_some_number, has_child, has_child_under}
-use Rattle.m3_grants.proofs.Lookups.{found, get_with_node, length_with_node, on_node, grants_changed, is_child_in, child_counts}
+use Rattle.m3_grants.specs.Nodes.{on_node, as_grant, grants_of, grant_of, IsTree, IsRange, Counts, with_node, under_parent, one_less, done_node, is_before, is_rightful, is_some_number, has_child, has_child_under}
+use Rattle.m3_grants.proofs.Lookups.{found, get_with_node, length_with_node, grants_changed, is_child_in, child_counts}
 use Rattle.m3_grants.proofs.Alike.{Keeps, keeps_same, rightful_kept}
 use Rattle.m3_grants.proofs.Sending.{get_changed, counts_changed}
 use Rattle.m3_grants.proofs.Making.{grants_under, length_under}

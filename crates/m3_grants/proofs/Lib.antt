@@ -1,9 +1,14 @@
+pub mod Bits
 pub mod Lookups
 pub mod Alike
 pub mod Sending
 pub mod Judging
 pub mod Making
+pub mod Indexing
+pub mod Linking
 pub mod Finishing
 pub mod Opening
 pub mod Marks
 pub mod Revoking
+pub mod Waiting
+pub mod Walking

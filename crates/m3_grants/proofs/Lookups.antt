@@ -1,5 +1,5 @@
 -- The nodes and the list of grants that they stand for.
-use Rattle.std.proofs.Common.{cond, ◌≡◌, ℕ, zero, suc, ◌+◌, ◌-◌, ◌<◌, ◌≤◌, Bool, true, false, List, [], ◌∷◌, length, Some, None, refl, sym, ◌∙◌, ap, subst, arith}
+use Rattle.std.proofs.Common.{cond, ◌≡◌, ℕ, zero, suc, ◌+◌, ◌-◌, ◌<◌, ◌≤◌, Bool, true, false, List, [], ◌∷◌, length, map, Some, None, refl, sym, ◌∙◌, ap, subst, arith}
 use Rattle.std.specs.Prelude.{Option, if◌then◌else◌, ◌==◌, slice_get, slice_set, slice_index_or, is_some, count_by}
 use Rattle.std.specs.List.{list_any}
 use Rattle.std.proofs.lemmas.List.Sums.{sum_by-cons}
@@ -10,20 +10,29 @@ use Rattle.m3_base.specs.Places.{least_closing}
 use Rattle.m3_grants.specs.declared.node.Node.{Node}
 use Rattle.m3_grants.specs.declared.node.Stage.{Stage}
 use Rattle.m3_grants.specs.Tree.{GrantTree, holds_in, IsHeld, IsChildless}
-use Rattle.m3_grants.specs.Nodes.{as_grant, grants_of, grant_of, with_found, with_node, Counts, is_due, first_due, is_some_number}
+use Rattle.m3_grants.specs.Nodes.{on_node, as_grant, grants_of, grant_of, with_found, with_node, Counts, Stands, is_due, first_due, is_some_number}
 
 pub found : (nodes : List Node) (i : ℕ) → slice_get (grants_of nodes) i ≡ grant_of (slice_get nodes i)
 found [] i = refl
 found (x ∷ xs) zero = refl
 found (x ∷ xs) (suc i) = grind (arith, found xs i)
 
+pub stands_at : (nodes : List Node) (g : ℕ) → 0 < g → ((i : ℕ) → Counts (count_by (is_open_child (i + 1)) (grants_of nodes)) (slice_get nodes i)) → Stands (grants_of nodes) g (grant_in (grants_of nodes) g) (slice_get nodes (g - 1))
+stands_at nodes g some counts = by_node (slice_get nodes (g - 1)) refl
+  where
+    there : grant_in (grants_of nodes) g ≡ grant_of (slice_get nodes (g - 1))
+    there = grind (arith, nat_tests, found nodes (g - 1), some)
+
+    by_node : (o : Option Node) → slice_get nodes (g - 1) ≡ o → Stands (grants_of nodes) g (grant_in (grants_of nodes) g) o
+    by_node None e = there ∙ ap grant_of e
+    by_node (Some x) e =
+        let s : g - 1 + 1 ≡ g = omega (arith, some) in
+        let count : Counts (count_by (is_open_child (g - 1 + 1)) (grants_of nodes)) (Some x) = subst (Counts (count_by (is_open_child (g - 1 + 1)) (grants_of nodes))) e (counts (g - 1)) in
+        (there ∙ ap grant_of e, subst (λ m. x.children ≡ count_by (is_open_child m) (grants_of nodes)) s count)
+
 pub length_grants : (nodes : List Node) → length (grants_of nodes) ≡ length nodes
 length_grants [] = refl
 length_grants (x ∷ xs) = grind (arith, length_grants xs)
-
-abbrev pub on_node : (Node → Node) → Option Node → Option Node
-on_node f None = None
-on_node f (Some x) = Some (f x)
 
 pub get_set : {X : Type 0} (xs : List X) (i k : ℕ) (x y : X) → slice_get xs i ≡ Some x → slice_get (slice_set xs i y) k ≡ (if k == i then Some y else slice_get xs k)
 get_set [] i k x y e = absurd (cc)
@@ -39,7 +48,7 @@ get_found nodes f i k (Some x) e = get_set nodes i k x (f x) e
 pub get_with_node : (nodes : List Node) (f : Node → Node) (i k : ℕ) → slice_get (with_node nodes i f) k ≡ (if k == i then on_node f (slice_get nodes i) else slice_get nodes k)
 get_with_node nodes f i k = get_found nodes f i k (slice_get nodes i) refl
 
-length_set : {X : Type 0} (xs : List X) (i : ℕ) (y : X) → length (slice_set xs i y) ≡ length xs
+pub length_set : {X : Type 0} (xs : List X) (i : ℕ) (y : X) → length (slice_set xs i y) ≡ length xs
 length_set [] i y = refl
 length_set (x ∷ xs) zero y = refl
 length_set (x ∷ xs) (suc i) y = grind (arith, length_set xs i y)
@@ -50,6 +59,28 @@ length_with_node nodes f i = by_found (slice_get nodes i)
     by_found : (o : Option Node) → length (with_found nodes i f o) ≡ length nodes
     by_found None = refl
     by_found (Some x) = length_set nodes i (f x)
+
+pub get_set_within : {X : Type 0} (xs : List X) (i k : ℕ) (y : X) → i < length xs → slice_get (slice_set xs i y) k ≡ (if k == i then Some y else slice_get xs k)
+get_set_within [] i k y h = absurd (omega arith)
+get_set_within (z ∷ zs) zero zero y h = refl
+get_set_within (z ∷ zs) zero (suc k) y h = grind (arith, nat_tests)
+get_set_within (z ∷ zs) (suc i) zero y h = grind (arith, nat_tests)
+get_set_within (z ∷ zs) (suc i) (suc k) y h = grind (arith, nat_tests, get_set_within zs i k y (omega (arith, h)))
+
+-- what is listed of each, at a place
+abbrev pub read : {X : Type 0} → (X → Option ℕ) → Option X → Option ℕ
+read f None = None
+read f (Some x) = f x
+
+pub mapped_at : {X : Type 0} (f : X → Option ℕ) (xs : List X) (i : ℕ) → slice_index_or (map f xs) i None ≡ read f (slice_get xs i)
+mapped_at f [] i = refl
+mapped_at f (x ∷ xs) zero = refl
+mapped_at f (x ∷ xs) (suc i) = mapped_at f xs i
+
+pub mapped_same : {X : Type 0} (f : X → Option ℕ) (xs : List X) (i : ℕ) (x y : X) → slice_get xs i ≡ Some x → f y ≡ f x → map f (slice_set xs i y) ≡ map f xs
+mapped_same f [] i x y e h = absurd (cc)
+mapped_same f (z ∷ zs) zero x y e h = let s : z ≡ x = grind (arith, e) in ap (λ p. p ∷ map f zs) (h ∙ ap f (sym s))
+mapped_same f (z ∷ zs) (suc i) x y e h = ap (λ p. f z ∷ p) (mapped_same f zs i x y e h)
 
 -- ---- one grant changed
 

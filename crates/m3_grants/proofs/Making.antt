@@ -11,10 +11,9 @@ use Rattle.m3_base.specs.declared.packet.Fresh.{Fresh}
 use Rattle.m3_base.specs.State.{Grant, grant_in, parent_in, parent_of, undone, holder, holder_ep, is_number, is_done, is_live}
 use Rattle.m3_base.specs.Grants.{form, new_grant, holds_at, is_open_child, is_outside, is_above_closing, is_more, is_crowded, first_no, make_refusal, fresh_of as fresh_in}
 use Rattle.m3_grants.specs.declared.node.Node.{Node}
-use Rattle.m3_grants.specs.declared.node.Stage.{Stage}
 use Rattle.m3_grants.specs.Tree.{holds_in, above, is_live_in}
-use Rattle.m3_grants.specs.Nodes.{as_grant, grants_of, IsTree, IsRange, Counts, FitsIn, FitsUnder, size_of, with_found, under_parent, one_more, is_before, is_live_above, is_rightful, is_some_number, has_room, has_room_under}
-use Rattle.m3_grants.proofs.Lookups.{length_grants, get_with_node, length_with_node, on_node}
+use Rattle.m3_grants.specs.Nodes.{on_node, new_node, as_grant, grants_of, IsTree, IsRange, Counts, FitsIn, FitsUnder, size_of, with_found, under_parent, one_more, is_before, is_live_above, is_rightful, is_some_number, has_room, has_room_under}
+use Rattle.m3_grants.proofs.Lookups.{length_grants, get_with_node, length_with_node}
 
 -- ---- what is known of a line that isn't refused
 
@@ -47,7 +46,7 @@ get_pushed [] y (suc i) = grind (arith, nat_tests)
 get_pushed (x ∷ xs) y zero = grind (arith, nat_tests)
 get_pushed (x ∷ xs) y (suc i) = grind (arith, nat_tests, get_pushed xs y i)
 
-get_none : {X : Type 0} (xs : List X) (i : ℕ) → slice_get xs i ≡ None → length xs ≤ i
+pub get_none : {X : Type 0} (xs : List X) (i : ℕ) → slice_get xs i ≡ None → length xs ≤ i
 get_none [] i e = omega arith
 get_none (x ∷ xs) zero e = absurd (cc)
 get_none (x ∷ xs) (suc i) e = let h : length xs ≤ i = get_none xs i e in omega arith
@@ -66,16 +65,13 @@ pub grants_under : (nodes : List Node) (p : Option ℕ) (f : Node → Node) → 
 grants_under nodes None f s = refl
 grants_under nodes (Some g) f s = grants_found nodes (g - 1) f (slice_get nodes (g - 1)) s refl
 
-length_pushed : {X : Type 0} (xs : List X) (y : X) → length (xs ++ y ∷ []) ≡ length xs + 1
+pub length_pushed : {X : Type 0} (xs : List X) (y : X) → length (xs ++ y ∷ []) ≡ length xs + 1
 length_pushed [] y = refl
 length_pushed (x ∷ xs) y = grind (arith, length_pushed xs y)
 
 pub grants_pushed : (nodes : List Node) (x : Node) → grants_of (nodes ++ x ∷ []) ≡ grants_of nodes ++ as_grant x ∷ []
 grants_pushed [] x = refl
 grants_pushed (y ∷ ys) x = ap (λ z. as_grant y ∷ z) (grants_pushed ys x)
-
-abbrev pub new_node : GrantLine → Fresh → Node
-new_node line f = record { line = line; fresh = f; stage = Stage.Live; close_sent = false; is_root = false; children = 0 }
 
 pub grants_made : (nodes : List Node) (line : GrantLine) (f : Fresh) → grants_of (under_parent nodes (parent_of line) one_more ++ new_node line f ∷ []) ≡ grants_of nodes ++ new_grant line f ∷ []
 grants_made nodes line f = grants_pushed (under_parent nodes (parent_of line) one_more) (new_node line f) ∙ ap (λ z. z ++ new_grant line f ∷ []) (grants_under nodes (parent_of line) one_more (λ x. refl))
@@ -173,6 +169,47 @@ is_under n gs line f w k = by_parent (parent_of line) refl
         by_there : (o : Option Grant) → undone (grant_in gs of) ≡ o → is_none o ≡ false
         by_there (Some x) v = refl
         by_there None v = absurd (form_none n line f of e (ap (form n line) (sym (ap (λ p. undone (parent_in gs p)) e ∙ v)) ∙ w))
+
+-- the child is counted before it is there, or after
+set_pushed : (nodes : List Node) (y : Node) (i : ℕ) (f : Node → Node) → i < length nodes → with_found (nodes ++ y ∷ []) i f (slice_get (nodes ++ y ∷ []) i) ≡ with_found nodes i f (slice_get nodes i) ++ y ∷ []
+set_pushed [] y i f h = absurd (omega arith)
+set_pushed (x ∷ xs) y zero f h = refl
+set_pushed (x ∷ xs) y (suc i) f h = next (xs ++ y ∷ []) (slice_get (xs ++ y ∷ []) i) ∙ (ap (λ z. x ∷ z) (set_pushed xs y i f (omega (arith, h))) ∙ ap (λ z. z ++ y ∷ []) (sym (next xs (slice_get xs i))))
+  where
+    next : (zs : List Node) (o : Option Node) → with_found (x ∷ zs) (suc i) f o ≡ x ∷ with_found zs i f o
+    next zs None = refl
+    next zs (Some z) = refl
+
+under_pushed : (nodes : List Node) (y : Node) (p : Option ℕ) (f : Node → Node) → IsUnder (grants_of nodes) p → under_parent (nodes ++ y ∷ []) p f ≡ under_parent nodes p f ++ y ∷ []
+under_pushed nodes y None f u = refl
+under_pushed nodes y (Some g) f u =
+    let some : 0 < g = u.0.0 in
+    let last : g ≤ length (grants_of nodes) = u.0.1 in
+    set_pushed nodes y (g - 1) f (omega (arith, some, last, length_grants nodes))
+
+pub made_is : (memory : ℕ) (nodes : List Node) (line : GrantLine) (f : Fresh) → make_refusal memory (grants_of nodes) line ≡ None → form (length (grants_of nodes) + 1) line (above (grants_of nodes) line) ≡ Some f → under_parent (nodes ++ new_node line f ∷ []) (parent_of line) one_more ≡ under_parent nodes (parent_of line) one_more ++ new_node line f ∷ []
+made_is memory nodes line f e w =
+    let gs = grants_of nodes in
+    let known : Allowed memory gs line (above gs line) = allowed memory gs line e in
+    under_pushed nodes (new_node line f) (parent_of line) one_more (is_under (length gs + 1) gs line f w known.is_open)
+
+pub before_made : (memory : ℕ) (nodes : List Node) (line : GrantLine) (f : Fresh) → make_refusal memory (grants_of nodes) line ≡ None → form (length (grants_of nodes) + 1) line (above (grants_of nodes) line) ≡ Some f → is_before (parent_of line) (length nodes) ≡ true
+before_made memory nodes line f e w =
+    let gs = grants_of nodes in
+    let known : Allowed memory gs line (above gs line) = allowed memory gs line e in
+    by_parent (parent_of line) (is_under (length gs + 1) gs line f w known.is_open)
+  where
+    by_parent : (p : Option ℕ) → IsUnder (grants_of nodes) p → is_before p (length nodes) ≡ true
+    by_parent None u = refl
+    by_parent (Some g) u = grind (arith, nat_tests, u.0.0, u.0.1, length_grants nodes)
+
+pub room_pushed : (nodes : List Node) (line : GrantLine) (f : Fresh) (p : Option ℕ) → has_room_under nodes p ≡ true → has_room_under (nodes ++ new_node line f ∷ []) p ≡ true
+room_pushed nodes line f None h = refl
+room_pushed nodes line f (Some g) h = rw (get_pushed nodes (new_node line f) (g - 1)) (by_place (g - 1 == length nodes))
+  where
+    by_place : (b : Bool) → has_room (if b then Some (new_node line f) else slice_get nodes (g - 1)) ≡ true
+    by_place true = grind (arith, nat_tests)
+    by_place false = h
 
 -- ---- endpoints
 

@@ -5,11 +5,7 @@ use Rattle.std.proofs.lemmas.Bool.Decides.{nat_tests}
 use Rattle.m3_base.specs.State.{Grant, parent_of}
 use Rattle.m3_base.specs.Grants.{marks_under, is_marked, or_false}
 use Rattle.m3_grants.specs.Nodes.{is_before}
-use Rattle.m3_grants.proofs.Making.{get_pushed}
-
-length_pushed : {X : Type 0} (xs : List X) (y : X) → length (xs ++ y ∷ []) ≡ length xs + 1
-length_pushed [] y = refl
-length_pushed (x ∷ xs) y = grind (arith, length_pushed xs y)
+use Rattle.m3_grants.proofs.Making.{get_pushed, length_pushed}
 
 pushed_before : {X : Type 0} (xs : List X) (y : X) (k : ℕ) → k < length xs → slice_get (xs ++ y ∷ []) k ≡ slice_get xs k
 pushed_before xs y k h = let other : (k == length xs) ≡ false = grind (arith, nat_tests, h) in get_pushed xs y k ∙ rw other refl

@@ -1,15 +1,13 @@
 -- A revoke, grant after grant, closes what is marked.
-use Rattle.std.proofs.Common.{◌≡◌, ℕ, zero, suc, ◌+◌, ◌-◌, ◌<◌, ◌≤◌, Bool, true, false, ◌&&◌, ◌||◌, List, [], ◌∷◌, length, Some, None, refl, sym, ◌∙◌, ap, subst, arith}
-use Rattle.std.specs.Prelude.{Option, if◌then◌else◌, ◌==◌, nat_lt, slice_get, slice_set}
-use Rattle.std.proofs.lemmas.Option.{slice_get_past}
-use Rattle.std.proofs.lemmas.Bool.Decides.{nat_tests}
+use Rattle.std.proofs.Common.{◌≡◌, ℕ, zero, suc, ◌+◌, ◌-◌, ◌<◌, Bool, true, false, ◌&&◌, ◌||◌, List, [], ◌∷◌, length, Some, None, refl, sym, ◌∙◌, ap, subst, arith}
+use Rattle.std.specs.Prelude.{Option, if◌then◌else◌, ◌==◌, slice_get}
 use Rattle.m3_base.specs.State.{Standing, Grant, grant_in, undone, parent_of, is_live}
 use Rattle.m3_base.specs.Grants.{is_marked, or_false, to_closing, closing_where, revoked, change_grant}
 use Rattle.m3_grants.specs.declared.node.Node.{Node}
 use Rattle.m3_grants.specs.declared.node.Stage.{Stage}
 use Rattle.m3_grants.specs.Tree.{is_live_in}
-use Rattle.m3_grants.specs.Nodes.{as_grant, grants_of, grant_of, standing_of, IsTree, Counts, with_node, root_node, is_before, is_live_above, is_rightful, is_live_stage, close_if, close_where, is_closing_node, is_under_closing, is_reached, close_next, AllRightful}
-use Rattle.m3_grants.proofs.Lookups.{found, get_with_node, length_with_node, on_node, grants_changed}
+use Rattle.m3_grants.specs.Nodes.{on_node, as_grant, grants_of, grant_of, standing_of, IsTree, Counts, with_node, root_node, is_before, is_live_above, is_rightful, is_live_stage, close_if, close_where}
+use Rattle.m3_grants.proofs.Lookups.{found, length_with_node, grants_changed}
 use Rattle.m3_grants.proofs.Alike.{Alike, alike_same, Keeps, keeps_same, rightful_kept, tree_alike, by_number}
 use Rattle.m3_grants.proofs.Sending.{get_changed, counts_changed}
 use Rattle.m3_grants.proofs.Marks.{marks_of, mark, mark_is}
@@ -31,7 +29,7 @@ length_close [] nodes = refl
 length_close (b ∷ bs) [] = refl
 length_close (b ∷ bs) (x ∷ xs) = grind (arith, length_close bs xs)
 
-same_places : {X : Type 0} (xs ys : List X) → ((k : ℕ) → slice_get xs k ≡ slice_get ys k) → xs ≡ ys
+pub same_places : {X : Type 0} (xs ys : List X) → ((k : ℕ) → slice_get xs k ≡ slice_get ys k) → xs ≡ ys
 same_places [] [] h = refl
 same_places [] (y ∷ ys) h = absurd (let z = h 0 in cc)
 same_places (x ∷ xs) [] h = absurd (let z = h 0 in cc)
@@ -40,100 +38,15 @@ same_places (x ∷ xs) (y ∷ ys) h =
     let later : xs ≡ ys = same_places xs ys (λ k. h (suc k)) in
     rw (head, later) refl
 
--- ---- one grant after the other
+-- ---- what is live
 
--- those before this place are closed where they are marked, and the others are as they were
-abbrev pub Reached : ℕ → ℕ → List Node → List Node → Type 0
-Reached g i old now = (k : ℕ) → slice_get now k ≡ (if nat_lt k i then on_node (close_if (mark g (grants_of old) k)) (slice_get old k) else slice_get old k)
-
-pub reached_none : (g : ℕ) (old now : List Node) → now ≡ old → Reached g 0 old now
-reached_none g old now e k = let past : nat_lt k 0 ≡ false = grind (arith, nat_tests) in rw (past, e) refl
-
-pub reached_all : (g n : ℕ) (old now : List Node) → length old ≤ n → Reached g n old now → now ≡ close_where (marks_of g (grants_of old)) old
-reached_all g n old now h r = same_places now (close_where (marks_of g (grants_of old)) old) (λ k. r k ∙ (by_place k (nat_lt k n) refl ∙ sym (get_close (marks_of g (grants_of old)) old k)))
-  where
-    by_place : (k : ℕ) (b : Bool) → nat_lt k n ≡ b → (if b then on_node (close_if (mark g (grants_of old) k)) (slice_get old k) else slice_get old k) ≡ on_node (close_if (mark g (grants_of old) k)) (slice_get old k)
-    by_place k true e = refl
-    by_place k false e = let past : slice_get old k ≡ None = slice_get_past old k (let z : n ≤ k = grind (arith, nat_tests, e) in omega (arith, h, z)) in rw past refl
-
-live_stage : (x : Node) → is_live (standing_of x.stage) ≡ is_live_stage x.stage
+pub live_stage : (x : Node) → is_live (standing_of x.stage) ≡ is_live_stage x.stage
 live_stage x = by_stage x.stage
   where
     by_stage : (s : Stage) → is_live (standing_of s) ≡ is_live_stage s
     by_stage Stage.Live = refl
     by_stage Stage.Closing = refl
     by_stage Stage.Done = refl
-
-closed_parent : (b : Bool) (o : Option Node) → is_live_in (grant_of o) ≡ true → is_closing_node (on_node (close_if b) o) ≡ b
-closed_parent b None e = absurd (cc)
-closed_parent b (Some x) e = by_stage b x.stage refl e
-  where
-    by_stage : (b : Bool) (s : Stage) → x.stage ≡ s → is_live (standing_of x.stage) ≡ true → is_closing_node (Some (close_if b x)) ≡ b
-    by_stage true Stage.Live w e = grind (arith, w)
-    by_stage false Stage.Live w e = grind (arith, w)
-    by_stage b Stage.Closing w e = absurd (grind (arith, w, e))
-    by_stage b Stage.Done w e = absurd (grind (arith, w, e))
-
-under_marked : (g i : ℕ) (old now : List Node) (p : Option ℕ) → Reached g i old now → is_before p i ≡ true → is_live_above (grants_of old) p ≡ true → is_under_closing now p ≡ is_marked p (marks_of g (grants_of old))
-under_marked g i old now None r b l = refl
-under_marked g i old now (Some p) r b l =
-    let within : nat_lt (p - 1) i ≡ true = grind (arith, nat_tests, b) in
-    let some : (p == 0) ≡ false = grind (arith, nat_tests, b) in
-    let there : is_live_in (slice_get (grants_of old) (p - 1)) ≡ true = subst (λ c. is_live_in (if c then None else slice_get (grants_of old) (p - 1)) ≡ true) some l in
-    let live : is_live_in (grant_of (slice_get old (p - 1))) ≡ true = subst (λ o. is_live_in o ≡ true) (found old (p - 1)) there in
-    let at : slice_get now (p - 1) ≡ on_node (close_if (mark g (grants_of old) (p - 1))) (slice_get old (p - 1)) = r (p - 1) ∙ rw within refl in
-    ap is_closing_node at ∙ closed_parent (mark g (grants_of old) (p - 1)) (slice_get old (p - 1)) live
-
-close_same : (g i : ℕ) (old now : List Node) (o : Option Node) → AllRightful (grants_of old) → Reached g i old now → slice_get old i ≡ o → on_node (λ x. close_if (is_reached now g i (parent_of x.line)) x) o ≡ on_node (close_if (mark g (grants_of old) i)) o
-close_same g i old now None right r e = refl
-close_same g i old now (Some x) right r e = by_live (is_live_stage x.stage) refl
-  where
-    at : slice_get (grants_of old) i ≡ Some (as_grant x)
-    at = found old i ∙ ap grant_of e
-
-    this : is_rightful (grants_of old) i (Some (as_grant x)) ≡ true
-    this = subst (λ o. is_rightful (grants_of old) i o ≡ true) at (right i)
-
-    by_live : (b : Bool) → is_live_stage x.stage ≡ b → on_node (λ y. close_if (is_reached now g i (parent_of y.line)) y) (Some x) ≡ on_node (close_if (mark g (grants_of old) i)) (Some x)
-    by_live false w =
-        let still : (b : Bool) → close_if b x ≡ x = λ b. grind (arith, w) in
-        ap Some (still (is_reached now g i (parent_of x.line)) ∙ sym (still (mark g (grants_of old) i)))
-    by_live true w =
-        let live : is_live (standing_of x.stage) ≡ true = live_stage x ∙ w in
-        let before : is_before (parent_of x.line) i ≡ true = grind (arith, this) in
-        let above : is_live_above (grants_of old) (parent_of x.line) ≡ true = grind (arith, this, live) in
-        let same : is_reached now g i (parent_of x.line) ≡ mark g (grants_of old) i = ap (λ c. (i + 1 == g) || c) (under_marked g i old now (parent_of x.line) r before above) ∙ sym (mark_is g (grants_of old) i (as_grant x) at before) in
-        ap (λ b. Some (close_if b x)) same
-
-pub reached_next : (g i : ℕ) (old now next : List Node) → AllRightful (grants_of old) → Reached g i old now → next ≡ close_next now g i → Reached g (i + 1) old next
-reached_next g i old now next right r e k =
-    ap (λ ns. slice_get ns k) e ∙ (get_with_node now (λ x. close_if (is_reached now g i (parent_of x.line)) x) i k ∙ by_place (k == i) refl)
-  where
-    here : slice_get now i ≡ slice_get old i
-    here = let past : nat_lt i i ≡ false = grind (arith, nat_tests) in r i ∙ rw past refl
-
-    by_place : (b : Bool) → (k == i) ≡ b → (if b then on_node (λ x. close_if (is_reached now g i (parent_of x.line)) x) (slice_get now i) else slice_get now k) ≡ (if nat_lt k (i + 1) then on_node (close_if (mark g (grants_of old) k)) (slice_get old k) else slice_get old k)
-    by_place true w =
-        let s : k ≡ i = grind (arith, nat_tests, w) in
-        let within : nat_lt i (i + 1) ≡ true = grind (arith, nat_tests) in
-        let same : on_node (λ x. close_if (is_reached now g i (parent_of x.line)) x) (slice_get now i) ≡ on_node (close_if (mark g (grants_of old) i)) (slice_get old i) = ap (on_node (λ x. close_if (is_reached now g i (parent_of x.line)) x)) here ∙ close_same g i old now (slice_get old i) right r refl in
-        rw (s, within) same
-    by_place false w = let s : nat_lt k i ≡ nat_lt k (i + 1) = by_less (nat_lt k i) refl in rw (sym s) (r k)
-      where
-        by_less : (b : Bool) → nat_lt k i ≡ b → nat_lt k i ≡ nat_lt k (i + 1)
-        by_less true v = grind (arith, nat_tests, v)
-        by_less false v = grind (arith, nat_tests, v, w)
-
-set_same : (nodes : List Node) (i : ℕ) (x : Node) → slice_get nodes i ≡ Some x → slice_set nodes i x ≡ nodes
-set_same [] i x e = absurd (cc)
-set_same (y ∷ ys) zero x e = grind (arith, e)
-set_same (y ∷ ys) (suc i) x e = grind (arith, set_same ys i x e)
-
--- where nothing closes, all is as it was
-pub nothing_closes : (nodes : List Node) (g i : ℕ) (x : Node) → slice_get nodes i ≡ Some x → (is_reached nodes g i (parent_of x.line) && is_live_stage x.stage) ≡ false → nodes ≡ close_next nodes g i
-nothing_closes nodes g i x e n =
-    let still : close_if (is_reached nodes g i (parent_of x.line)) x ≡ x = rw n refl in
-    rw e (rw still (sym (set_same nodes i x e)))
 
 -- ---- the grants
 

@@ -8,8 +8,8 @@ use Rattle.m3_base.specs.Places.{least_closing}
 use Rattle.m3_grants.specs.declared.node.Node.{Node}
 use Rattle.m3_grants.specs.declared.node.Stage.{Stage}
 use Rattle.m3_grants.specs.Tree.{is_sent_in, is_undone_in, with_sent}
-use Rattle.m3_grants.specs.Nodes.{as_grant, grants_of, grant_of, IsTree, Counts, with_node, sent_node}
-use Rattle.m3_grants.proofs.Lookups.{found, get_set, get_with_node, length_with_node, on_node, least_due}
+use Rattle.m3_grants.specs.Nodes.{on_node, as_grant, grants_of, grant_of, IsTree, Counts, with_node, sent_node}
+use Rattle.m3_grants.proofs.Lookups.{found, get_set, get_with_node, length_with_node, least_due}
 use Rattle.m3_grants.proofs.Alike.{Alike, alike_same, Keeps, keeps_same, rightful_kept, tree_alike}
 
 -- one grant changed, and the others not

@@ -86,6 +86,12 @@ pub record IsTree (nodes : List Node) (table : List (Option ℕ)) (memory : ℕ)
   pub children : (i : ℕ) → Counts (count_by (is_open_child (i + 1)) (grants_of nodes)) (slice_get nodes i)
   pub rightful : (i : ℕ) → is_rightful (grants_of nodes) i (slice_get (grants_of nodes) i) ≡ true
 
+-- beside it no visit is pending, and there is room for all
+pub record IsWhole (nodes : List Node) (table : List (Option ℕ)) (memory : ℕ) (pending : List ℕ) (room : ℕ) : Type 0 where
+  pub tree : IsTree nodes table memory
+  pub none : pending ≡ []
+  pub spare : 4096 ≤ room
+
 -- ---- what a look-up says
 
 -- the grant of this number, with its count of children
@@ -100,6 +106,13 @@ StandsAbove gs None found (Some x) = found ≡ Some (as_grant x)
 StandsAbove gs (Some g) found (Some x) = (found ≡ Some (as_grant x)) × (x.children ≡ count_by (is_open_child g) gs)
 
 -- ---- one grant more, or changed
+
+abbrev pub new_node : GrantLine → Fresh → Node
+new_node line f = record { line = line; fresh = f; stage = Stage.Live; close_sent = false; is_root = false; children = 0 }
+
+abbrev pub on_node : (Node → Node) → Option Node → Option Node
+on_node f None = None
+on_node f (Some x) = Some (f x)
 
 abbrev pub with_found : List Node → ℕ → (Node → Node) → Option Node → List Node
 with_found nodes i change None = nodes
@@ -116,6 +129,9 @@ one_less x = record x { children = x.children - 1 }
 
 abbrev pub sent_node : Node → Node
 sent_node x = record x { close_sent = true }
+
+abbrev pub closing_node : Node → Node
+closing_node x = record x { stage = Stage.Closing }
 
 abbrev pub done_node : Node → Node
 done_node x = record x { stage = Stage.Done }
@@ -159,6 +175,10 @@ abbrev pub is_live_stage : Stage → Bool
 is_live_stage Stage.Live = true
 is_live_stage s = false
 
+abbrev pub is_live_node : Option Node → Bool
+is_live_node None = false
+is_live_node (Some x) = is_live_stage x.stage
+
 abbrev pub close_if : Bool → Node → Node
 close_if b x = if b && is_live_stage x.stage then record x { stage = Stage.Closing } else x
 
@@ -167,21 +187,6 @@ abbrev pub close_where : List Bool → List Node → List Node
 close_where [] nodes = nodes
 close_where (b ∷ bs) [] = []
 close_where (b ∷ bs) (x ∷ nodes) = close_if b x ∷ close_where bs nodes
-
-abbrev pub is_closing_node : Option Node → Bool
-is_closing_node None = false
-is_closing_node (Some x) = not (is_live_stage x.stage)
-
-abbrev pub is_under_closing : List Node → Option ℕ → Bool
-is_under_closing nodes None = false
-is_under_closing nodes (Some p) = is_closing_node (slice_get nodes (p - 1))
-
--- the grant at this place is the revoked one, or under one that isn't live
-abbrev pub is_reached : List Node → ℕ → ℕ → Option ℕ → Bool
-is_reached nodes g i parent = (i + 1 == g) || is_under_closing nodes parent
-
-abbrev pub close_next : List Node → ℕ → ℕ → List Node
-close_next nodes g i = with_node nodes i (λ x. close_if (is_reached nodes g i (parent_of x.line)) x)
 
 abbrev pub AllRightful : List Grant → Type 0
 AllRightful gs = (i : ℕ) → is_rightful gs i (slice_get gs i) ≡ true

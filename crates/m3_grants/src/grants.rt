@@ -9,12 +9,12 @@ ghost use Rattle.m3_base.specs.State.{grant_in, undone, parent_in};
 ghost use Rattle.m3_grants.specs.Tree.{cause_in, cause_of, with_made, Allows, after_line, fresh_in, line_in, holder_in, is_live_in, IsHeld, IsChildless, is_sent_in, is_undone_in, with_sent, with_done, root_of};
 ghost use Rattle.m3_grants.specs.Nodes.{Stands, StandsAbove, crowds};
 
+use crate::changes::{add_child, drop_child, mark_done, mark_root, mark_sent};
 use crate::form;
 use crate::node::{Node, Stage};
-use crate::nodes::{
-    add_child, close_under, drop_child, first_due, mark_done, mark_root, mark_sent,
-};
+use crate::nodes::Nodes;
 use crate::refusal::GrantRefusal;
+use crate::walk::close_under;
 use m3_base::ids::{ActId, EpId, GrantId};
 use m3_base::order::GrantLine;
 use m3_base::packet::Fresh;
@@ -27,20 +27,23 @@ use std::marker::Model;
 #[derive(Debug, Drop)]
 pub struct Grants {
     memory: u32,
-    nodes: Vec<Node>,
+    nodes: Nodes,
     // at 16 * activity + endpoint, the grant there that isn't done
     held: Vec<Option<GrantId>>,
+    // empty between calls, with room for all grants that a revoke has still to visit
+    pending: Vec<GrantId>,
 }
 
 impl Model for Grants {
     ghost use Rattle.m3_grants.specs.Tree.{GrantTree};
-    ghost use Rattle.m3_grants.specs.Nodes.{grants_of, IsTree};
+    ghost use Rattle.m3_grants.specs.Nodes.{grants_of, IsWhole};
+    ghost use Rattle.std.specs.Prelude.{vec_capacity};
 
     ghost Value = { GrantTree };
 
-    ghost view = { λ s. record { memory = s.memory; grants = grants_of s.nodes.items } };
+    ghost view = { λ s. record { memory = s.memory; grants = grants_of s.nodes } };
 
-    ghost invariant = { λ s. IsTree s.nodes.items s.held.items s.memory };
+    ghost invariant = { λ s. IsWhole s.nodes s.held.items s.memory s.pending.items (vec_capacity s.pending) };
 }
 
 // Where an endpoint stands in the table.
@@ -63,8 +66,9 @@ impl Grants {
         held.resize(1024, None)?;
         Ok(Grants {
             memory,
-            nodes: Vec::new(alloc),
+            nodes: Nodes::new(alloc)?,
             held,
+            pending: Vec::with_capacity(alloc, 4096)?,
         })
     }
 
@@ -98,12 +102,7 @@ impl Grants {
     fn get(&self, g: GrantId) -> Option<Node>
         ensures { Stands self.now.grants g (grant_in self.now.grants g) result }
     {
-        let at = g.number() as usize - 1;
-        if at < self.nodes.len() {
-            Some(self.nodes[at])
-        } else {
-            None
-        }
+        self.nodes.get(g)
     }
 
     // The grant of this number, where it isn't done.
@@ -172,18 +171,10 @@ impl Grants {
             Some(fresh) => fresh,
             None => return Ok(grant),
         };
-        self.nodes.reserve(1)?;
+        self.nodes.push(line, fresh)?;
         add_child(&mut self.nodes, line.parent());
         let at = slot(line.act(), line.ep());
         self.held[at] = Some(grant);
-        self.nodes.push_reserved(Node {
-            line,
-            fresh,
-            stage: Stage::Live,
-            close_sent: false,
-            is_root: false,
-            children: 0,
-        });
         Ok(grant)
     }
 
@@ -267,7 +258,7 @@ impl Grants {
                 if !matches!(node.stage, Stage::Live) {
                     return Err(GrantRefusal::Closing);
                 }
-                close_under(&mut self.nodes, g);
+                close_under(&mut self.nodes, &mut self.pending, g);
                 mark_root(&mut self.nodes, g);
                 Ok(())
             }
@@ -280,7 +271,7 @@ impl Grants {
         ensures least { result ≡ least_closing self.now.grants 1 self.now.grants }
         ensures children_first { IsChildless self.now.grants result }
     {
-        first_due(self.nodes.as_slice())
+        self.nodes.first_due()
     }
 
     /// The grant's Close is sent. The condition is that `next_close` gives it.

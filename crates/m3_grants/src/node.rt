@@ -27,8 +27,8 @@ pub struct Node {
 
 impl Node {
     /// Whether its Close is due.
-    pub fn is_due(self) -> bool
-        ensures { result ≡ is_due self }
+    pub fn is_due(&self) -> bool
+        ensures { result ≡ is_due self.now }
     {
         matches!(self.stage, Stage::Closing) && !self.close_sent && self.children == 0
     }

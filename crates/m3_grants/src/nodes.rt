@@ -1,142 +1,126 @@
-//! Changes of single grants, and of a subtree.
+//! The grants in the order of their numbers, with what finds those that are due or under another at once.
 
-ghost use Rattle.std.specs.Prelude.{◌≡◌, true, ◌-◌, ◌<◌, ◌≤◌, ◌&&◌, [], length, vec_len, vec_capacity};
-ghost use Rattle.m3_base.specs.Grants.{marks_under};
+ghost use Rattle.std.specs.Prelude.{◌≡◌, true, ◌-◌, ◌<◌, ◌≤◌, ◌++◌, ◌∷◌, [], length, slice_get, slice_set, IfOk, OnOk, OnErr};
+ghost use Rattle.m3_grants.specs.Nodes.{new_node, first_due, is_before};
+ghost use Rattle.m3_grants.specs.Links.{IsPrevious, IsLast};
+ghost use Rattle.m3_grants.specs.Index.{parents_of, HasParent};
 ghost use Rattle.m3_base.specs.State.{parent_of};
-ghost use Rattle.m3_grants.specs.Nodes.{under_parent, has_room_under, has_child_under, one_more, one_less, sent_node, done_node, root_node, with_node, first_due, grants_of, AllRightful, is_under_closing, is_live_stage, is_reached, close_next, close_where};
 
+use crate::links::Links;
 use crate::node::{Node, Stage};
+use crate::place_set::PlaceSet;
 use m3_base::ids::GrantId;
+use m3_base::order::GrantLine;
+use m3_base::packet::Fresh;
+use std::alloc::{AllocError, Global};
+use std::marker::Model;
 
-/// The parent has one more child.
-pub fn add_child(nodes: &mut Vec<Node>, parent: Option<GrantId>)
-    requires { has_room_under nodes.old.items parent ≡ true }
-    ensures items { nodes.new.items ≡ under_parent nodes.old.items parent one_more }
-    ensures len { vec_len nodes.new ≡ vec_len nodes.old }
-    ensures capacity { vec_capacity nodes.new ≡ vec_capacity nodes.old }
-{
-    if let Some(g) = parent {
+/// All grants that were made. Contracts see the list of them: the grant of number g stands at g - 1.
+#[derive(Debug, Drop)]
+pub struct Nodes {
+    nodes: Vec<Node>,
+    // where those stand whose Close is due
+    due: PlaceSet,
+    links: Links,
+}
+
+impl Model for Nodes {
+    ghost use Rattle.std.specs.Prelude.{List};
+    ghost use Rattle.m3_grants.specs.declared.node.Node.{Node as ANode};
+    ghost use Rattle.m3_grants.specs.Index.{IsIndexed};
+
+    ghost Value = { List ANode };
+
+    ghost view = { λ s. s.nodes.items };
+
+    ghost invariant = { λ s. IsIndexed s.nodes.items s.due s.links };
+}
+
+impl Nodes {
+    pub fn new(alloc: Global) -> Result<Nodes, AllocError>
+        ensures { IfOk result (λ nodes. nodes ≡ []) }
+    {
+        let due = PlaceSet::new(alloc)?;
+        Ok(Nodes {
+            nodes: Vec::new(alloc),
+            due,
+            links: Links::new(alloc),
+        })
+    }
+
+    pub fn len(&self) -> usize
+        ensures { result ≡ length self.now }
+    {
+        self.nodes.len()
+    }
+
+    /// The grant of this number.
+    pub fn get(&self, g: GrantId) -> Option<Node>
+        ensures found { result ≡ slice_get self.now (g - 1) }
+        ensures some { 0 < g }
+    {
         let at = g.number() as usize - 1;
-        if at < nodes.len() {
-            let above = &mut nodes[at];
-            above.children += 1;
+        if at < self.nodes.len() {
+            Some(self.nodes[at])
+        } else {
+            None
         }
     }
-}
 
-/// The parent has one child less.
-pub fn drop_child(nodes: &mut Vec<Node>, parent: Option<GrantId>)
-    requires { has_child_under nodes.old.items parent ≡ true }
-    ensures items { nodes.new.items ≡ under_parent nodes.old.items parent one_less }
-    ensures len { vec_len nodes.new ≡ vec_len nodes.old }
-{
-    if let Some(g) = parent {
+    /// The next grant, which is live. After want of memory nothing has changed.
+    pub fn push(&mut self, line: GrantLine, fresh: Fresh) -> Result<(), AllocError>
+        requires few { length self.old < 4096 }
+        requires before { is_before (parent_of line) (length self.old) ≡ true }
+        ensures pushed { OnOk result (self.new ≡ self.old ++ new_node line fresh ∷ []) }
+        ensures kept { OnErr result (self.new ≡ self.old) }
+    {
+        self.nodes.reserve(1)?;
+        self.links.push(line.parent())?;
+        self.nodes.push_reserved(Node {
+            line,
+            fresh,
+            stage: Stage::Live,
+            close_sent: false,
+            is_root: false,
+            children: 0,
+        });
+        Ok(())
+    }
+
+    /// The grant of this number is so from now on. Its parent stays.
+    pub fn put(&mut self, g: GrantId, node: Node)
+        requires { HasParent (parent_of node.line) (slice_get self.old (g - 1)) }
+        ensures { self.new ≡ slice_set self.old (g - 1) node }
+    {
         let at = g.number() as usize - 1;
-        if at < nodes.len() {
-            let above = &mut nodes[at];
-            above.children -= 1;
+        let due = node.is_due();
+        self.nodes[at] = node;
+        if due {
+            self.due.insert(at);
+        } else {
+            self.due.remove(at);
         }
     }
-}
 
-/// Its Close was sent.
-pub fn mark_sent(nodes: &mut Vec<Node>, g: GrantId)
-    ensures items { nodes.new.items ≡ with_node nodes.old.items (g - 1) sent_node }
-    ensures len { vec_len nodes.new ≡ vec_len nodes.old }
-{
-    let at = g.number() as usize - 1;
-    if at < nodes.len() {
-        let node = &mut nodes[at];
-        node.close_sent = true;
+    /// The first grant whose Close is due.
+    pub fn first_due(&self) -> Option<GrantId>
+        ensures { result ≡ first_due 1 self.now }
+    {
+        let at = self.due.first()?;
+        Some(GrantId::new(at as u16 + 1))
     }
-}
-
-/// It is done.
-pub fn mark_done(nodes: &mut Vec<Node>, g: GrantId)
-    ensures items { nodes.new.items ≡ with_node nodes.old.items (g - 1) done_node }
-    ensures len { vec_len nodes.new ≡ vec_len nodes.old }
-{
-    let at = g.number() as usize - 1;
-    if at < nodes.len() {
-        let node = &mut nodes[at];
-        node.stage = Stage::Done;
+    /// The grant that was made before this one under the same.
+    pub fn previous(&self, g: GrantId) -> Option<GrantId>
+        ensures { IsPrevious (parents_of self.now) g result }
+    {
+        self.links.previous(g)
     }
-}
 
-/// It is the root of a revoke.
-pub fn mark_root(nodes: &mut Vec<Node>, g: GrantId)
-    ensures items { nodes.new.items ≡ with_node nodes.old.items (g - 1) root_node }
-    ensures len { vec_len nodes.new ≡ vec_len nodes.old }
-{
-    let at = g.number() as usize - 1;
-    if at < nodes.len() {
-        let node = &mut nodes[at];
-        node.is_root = true;
+    /// The last grant that was made under this one.
+    pub fn last_child(&self, g: GrantId) -> Option<GrantId>
+        ensures last { IsLast (parents_of self.now) g (length (parents_of self.now)) result }
+        ensures few { length self.now ≤ 4096 }
+    {
+        self.links.last_child(g)
     }
-}
-
-// Whether the grant above isn't live.
-fn is_under_closing(nodes: &[Node], parent: Option<GrantId>) -> bool
-    ensures { result ≡ is_under_closing nodes.now parent }
-{
-    match parent {
-        Some(p) => {
-            let at = p.number() as usize - 1;
-            at < nodes.len() && !matches!(nodes[at].stage, Stage::Live)
-        }
-        None => false,
-    }
-}
-
-// Whether the grant at this place is the revoked one, or under one that isn't live.
-fn is_reached(nodes: &[Node], g: GrantId, i: usize, parent: Option<GrantId>) -> bool
-    requires { i < length nodes.now }
-    ensures { result ≡ is_reached nodes.now g i parent }
-{
-    i + 1 == g.number() as usize || is_under_closing(nodes, parent)
-}
-
-// Whether the grant at this place is live and reached by the revoke.
-fn closes(nodes: &[Node], g: GrantId, i: usize, node: Node) -> bool
-    requires { i < length nodes.now }
-    ensures { result ≡ (is_reached nodes.now g i (parent_of node.line) && is_live_stage node.stage) }
-{
-    is_reached(nodes, g, i, node.line.parent()) && matches!(node.stage, Stage::Live)
-}
-
-// The grant at this place is closing, where it was live and is reached by the revoke.
-fn close_next(nodes: &mut Vec<Node>, g: GrantId, i: usize)
-    requires { i < vec_len nodes.old }
-    ensures items { nodes.new.items ≡ close_next nodes.old.items g i }
-    ensures len { vec_len nodes.new ≡ vec_len nodes.old }
-{
-    let closes = closes(nodes.as_slice(), g, i, nodes[i]);
-    if closes {
-        let node = &mut nodes[i];
-        node.stage = Stage::Closing;
-    }
-}
-
-/// All live grants of g's subtree are closing. A parent stands before its children.
-pub fn close_under(nodes: &mut Vec<Node>, g: GrantId)
-    requires { AllRightful (grants_of nodes.old.items) }
-    ensures items { nodes.new.items ≡ close_where (marks_under g 1 [] (grants_of nodes.old.items)) nodes.old.items }
-    ensures len { vec_len nodes.new ≡ vec_len nodes.old }
-{
-    for i in 0..nodes.len() {
-        close_next(nodes, g, i);
-    }
-}
-
-/// The first grant whose Close is due.
-pub fn first_due(nodes: &[Node]) -> Option<GrantId>
-    requires { length nodes.now ≤ 4096 }
-    ensures { result ≡ first_due 1 nodes.now }
-{
-    for i in 0..nodes.len() {
-        if nodes[i].is_due() {
-            return Some(GrantId::new(i as u16 + 1));
-        }
-    }
-    None
 }

@@ -5,3 +5,4 @@ pub mod Outcomes
 pub mod Setups
 pub mod Audits
 pub mod Texts
+pub mod Packets

@@ -1,4 +1,4 @@
-//! Journals as text.
+//! Journals and packets as text.
 #![tactic(auto)]
 
 mod audits;
@@ -8,9 +8,13 @@ mod events;
 mod journals;
 mod orders;
 mod outcomes;
+mod packets;
 mod setups;
 
 pub use journals::print;
+pub use packets::put_packet;
 
+#[cfg(test)]
+mod line_tests;
 #[cfg(test)]
 mod tests;

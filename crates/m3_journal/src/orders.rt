@@ -19,7 +19,7 @@ fn perm_word(perm: Perm) -> &'static str
     }
 }
 
-fn put_extent(out: &mut String, at: u32, len: u32, perm: Perm) -> Result<(), AllocError>
+pub fn put_extent(out: &mut String, at: u32, len: u32, perm: Perm) -> Result<(), AllocError>
     ensures { OnOk result (string_bytes out.new ≡ string_bytes out.old ++ spaced (extent_words at len perm)) }
 {
     let perm = perm_word(perm);

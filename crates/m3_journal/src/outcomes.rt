@@ -71,7 +71,7 @@ fn way_word(held: bool) -> &'static str
     if held { "held" } else { "routed" }
 }
 
-fn put_answer(out: &mut String, answer: &Answer) -> Result<(), AllocError>
+pub fn put_answer(out: &mut String, answer: &Answer) -> Result<(), AllocError>
     ensures { OnOk result (string_bytes out.new ≡ string_bytes out.old ++ spaced (answer_words answer.now)) }
 {
     match answer {

@@ -41,7 +41,8 @@ fn setup(alloc: Global) -> Result<Setup, AllocError> {
     Ok(setup)
 }
 
-fn entry(event: Event, said: Said, restore: Option<ActId>) -> Entry {
+/// An entry of an event that is no turn.
+pub fn entry(event: Event, said: Said, restore: Option<ActId>) -> Entry {
     Entry {
         event,
         outcome: Outcome {

@@ -7,7 +7,6 @@ use Rattle.m3_kernel.specs.Parts.{Tile}
 use Rattle.m3_machine.specs.Tile.{act_in}
 use Rattle.m3_machine.specs.At.{current_act}
 use Rattle.m3_machine.specs.Next.{tile_lines_from}
-use Rattle.m3_machine.specs.Closing.{EndsWith}
 
 lines_more : (t count : ℕ) (current : List (Option ℕ)) → t < count → tile_lines_from t (count - t) current ≡ AuditLine.Tile t (get_or current t None) ∷ tile_lines_from (t + 1) (count - (t + 1)) current
 lines_more t count current within =
@@ -26,16 +25,12 @@ line_added t count current old new act within e added =
 pub act_read : (tiles : List Tile) (t : ℕ) (x : Tile) → t < length tiles → x ≡ get_or tiles t x → act_in x.current ≡ get_or (map current_act tiles) t None
 act_read tiles t x within e = ap current_act e ∙ sym (get_or-map current_act tiles t x None within)
 
--- two lines more
-pub ends_with : (before tiled flown lines tile_part : List AuditLine) (f q : AuditLine) → tiled ≡ before ++ tile_part → flown ≡ tiled ++ f ∷ [] → lines ≡ flown ++ q ∷ [] → EndsWith lines (tile_part ++ f ∷ q ∷ [])
-ends_with before tiled flown lines tile_part f q e1 e2 e3 =
-    record {
-      before = before;
-      parts = e3
-          ∙ ap (λ ls. ls ++ q ∷ []) (e2 ∙ ap (λ ls. ls ++ f ∷ []) e1)
-          ∙ append_assoc (before ++ tile_part) (f ∷ []) (q ∷ [])
-          ∙ append_assoc before tile_part (f ∷ q ∷ []);
-    }
+-- the four parts, one after the other
+pub all_lines : (none credits tiled flown lines credit_part tile_part : List AuditLine) (f q : AuditLine) → none ≡ [] → credits ≡ none ++ credit_part → tiled ≡ credits ++ tile_part → flown ≡ tiled ++ f ∷ [] → lines ≡ flown ++ q ∷ []
+    → lines ≡ credit_part ++ tile_part ++ (f ∷ []) ++ q ∷ []
+all_lines none credits tiled flown lines credit_part tile_part f q e0 e1 e2 e3 e4 =
+    e4
+    ∙ ap (λ ls. ls ++ q ∷ []) (e3 ∙ ap (λ ls. ls ++ f ∷ []) (e2 ∙ ap (λ ls. ls ++ tile_part) (e1 ∙ ap (λ ls. ls ++ credit_part) e0)))
 
 pub is_none_from : {X : Type 0} (b : Bool) (o : Option X) → is_some o ≡ not b → b ≡ is_none o
 is_none_from true None e = refl

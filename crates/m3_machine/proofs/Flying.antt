@@ -19,12 +19,12 @@ length_if : (b : Bool) (n : ℕ) (xs ys : List Packet) → length xs ≡ n → l
 length_if true n xs ys e f = e
 length_if false n xs ys e f = f
 
-length_new : (p : Packet) (ps : List Packet) → length (new_flight p ps) ≡ suc (length ps)
+pub length_new : (p : Packet) (ps : List Packet) → length (new_flight p ps) ≡ suc (length ps)
 length_new p [] = refl
 length_new p (q ∷ ps) =
     length_if (name_before (name_of p) (name_of q)) (suc (suc (length ps))) (p ∷ q ∷ ps) (q ∷ new_flight p ps) refl (ap (λ n. suc n) (length_new p ps))
 
-length_by_name : (ps : List Packet) → length (by_name ps) ≡ length ps
+pub length_by_name : (ps : List Packet) → length (by_name ps) ≡ length ps
 length_by_name [] = refl
 length_by_name (p ∷ ps) = length_new p (by_name ps) ∙ ap (λ n. suc n) (length_by_name ps)
 
@@ -39,7 +39,7 @@ seats_hold s (x ∷ xs) m =
     let c : Context = context_or_new x.act (context_of x.act s.contexts) in
     seats_hold s xs (seated_at_opening x c t m) ∙ nobody_holds m.kernel.seats x.act (opened_seating t.current c)
 
-none_held : (h : Site) (s : State) → each held_by (seated_all h s).kernel.seats ≡ []
+pub none_held : (h : Site) (s : State) → each held_by (seated_all h s).kernel.seats ≡ []
 none_held h s = seats_hold s h.homes (
     record {
       kernel = record { seats = []; next = s.kernel_next; grants = s.grants; ready = replicate 16 []; yielded = replicate 16 false };

@@ -1,20 +1,128 @@
--- The last of the lines that close a machine's journal: on tiles, on flights, and whether nothing is to be taken.
-use Rattle.std.specs.Prelude.{◌≡◌, ℕ, List, [], ◌∷◌, ◌++◌, length, min, is_none}
+-- The lines that close a machine's journal: on credits, on tiles, on flights, and whether nothing is to be done.
+use Rattle.std.specs.Prelude.{◌≡◌, ℕ, ◌+◌, ◌<◌, ◌≤◌, List, [], ◌∷◌, ◌++◌, length, min, is_none, slice_index_or, true, false, Option, Some, None, if◌then◌else◌}
 use Rattle.m3_base.specs.declared.journal.AuditLine.{AuditLine}
+use Rattle.m3_base.specs.declared.packet.Packet.{Packet}
+use Rattle.m3_base.specs.declared.packet.Fresh.{Fresh}
+use Rattle.m3_base.specs.Audit.{audit_lines}
+use Rattle.m3_base.specs.Context.{Context}
+use Rattle.m3_base.specs.State.{Grant, is_live}
+use Rattle.m3_base.specs.Setup.{facts_of}
+use Rattle.m3_endpoint.specs.Counts.{most}
+use Rattle.m3_merge.specs.Parts.{Each}
+use Rattle.m3_kernel.specs.Parts.{Site, Tile, Parcel}
+use Rattle.m3_machine.specs.declared.tally.Tally.{Tally}
 use Rattle.m3_machine.specs.Machine.{Machine}
-use Rattle.m3_machine.specs.At.{on_links, packets_in}
-use Rattle.m3_machine.specs.Next.{tile_lines, next_event}
-use Rattle.m3_machine.specs.Whole.{Whole}
+use Rattle.m3_machine.specs.At.{at, places_of, each, on_links, here, away, contexts_in, packets_in}
+use Rattle.m3_machine.specs.Tally.{last_of, held, flying, queued}
+use Rattle.m3_machine.specs.Next.{tile_lines, next_of}
+use Rattle.m3_machine.specs.Kept.{IsKept}
+use Rattle.m3_machine.specs.Whole.{Whole, site, opened}
+
+-- ---- what is counted
+
+-- the contexts on tiles and on links, and the packets on links
+abbrev pub contexts_on : List Tile → List (List Parcel) → List Context
+contexts_on tiles links = each here tiles ++ on_links contexts_in links
+
+abbrev pub packets_on : List (List Parcel) → List Packet
+packets_on links = on_links packets_in links
+
+pub record AreCounts (f : ℕ → ℕ) (counts : List ℕ) : Type 0 where
+  pub size : length counts ≡ 4097
+  pub same : (g : ℕ) → g < 4097 → slice_index_or counts g 0 ≡ min most (f g)
+
+-- one count for each number up to 4,096
+pub record IsSized (t : Tally) : Type 0 where
+  pub held_size : length t.held.items ≡ 4097
+  pub flying_size : length t.flying.items ≡ 4097
+  pub queued_size : length t.queued.items ≡ 4097
+
+-- the counts of these contexts and these packets
+pub record IsTally (cs : List Context) (ps : List Packet) (t : Tally) : Type 0 where
+  pub held_are : AreCounts (λ g. held g cs ps) t.held.items
+  pub flying_are : AreCounts (λ g. flying g (λ a. last_of None a cs) ps) t.flying.items
+  pub queued_are : AreCounts (λ g. queued g cs) t.queued.items
+
+-- ---- the lines on credits
+
+-- the credits of grants by number: held, flying and queued
+module _ (held flying queued : ℕ → ℕ) where
+  -- the line of a send grant
+  abbrev pub credit_line : ℕ → Fresh → List AuditLine
+  credit_line g (Fresh.Send h to to_ep to_grant label size limit) = AuditLine.Credit g (held g) (flying g) (queued g) limit ∷ []
+  credit_line g f = []
+
+  -- of these grants, the first of which has the number g
+  abbrev pub credit_lines_from : ℕ → List Grant → List AuditLine
+  credit_lines_from g [] = []
+  credit_lines_from g (x ∷ xs) = credit_line g x.fresh ++ credit_lines_from (g + 1) xs
+
+  -- of those of them that are live
+  abbrev pub live_lines_from : ℕ → List Grant → List AuditLine
+  live_lines_from g [] = []
+  live_lines_from g (x ∷ xs) = (if is_live x.standing then credit_line g x.fresh else []) ++ live_lines_from (g + 1) xs
+
+-- as a tally has them
+abbrev pub tally_line : Tally → ℕ → Fresh → List AuditLine
+tally_line t = credit_line (λ g. slice_index_or t.held.items g 0) (λ g. slice_index_or t.flying.items g 0) (λ g. slice_index_or t.queued.items g 0)
+
+abbrev pub tally_lines : Tally → ℕ → List Grant → List AuditLine
+tally_lines t = credit_lines_from (λ g. slice_index_or t.held.items g 0) (λ g. slice_index_or t.flying.items g 0) (λ g. slice_index_or t.queued.items g 0)
+
+abbrev pub line_at : Tally → ℕ → Option Grant → List AuditLine
+line_at t g None = []
+line_at t g (Some x) = tally_line t g x.fresh
+
+-- as these contexts and these packets have them
+module _ (cs : List Context) (ps : List Packet) where
+  abbrev pub held_count : ℕ → ℕ
+  held_count g = min most (held g cs ps)
+
+  abbrev pub flying_count : ℕ → ℕ
+  flying_count g = min most (flying g (λ a. last_of None a cs) ps)
+
+  abbrev pub queued_count : ℕ → ℕ
+  queued_count g = min most (queued g cs)
+
+  abbrev pub credit_lines : List Grant → List AuditLine
+  credit_lines = credit_lines_from held_count flying_count queued_count 1
+
+  abbrev pub live_lines : List Grant → List AuditLine
+  live_lines = live_lines_from held_count flying_count queued_count 1
+
+-- ---- all lines
 
 -- the packets on all links
 abbrev pub flights : Machine → ℕ
 flights m = length (on_links packets_in m.links)
 
-abbrev pub last_lines : Whole → List AuditLine
-last_lines w =
-    tile_lines w.setup.tiles w.machine.tiles
-    ++ AuditLine.Flights (min 4294967295 (flights w.machine)) ∷ AuditLine.Quiet (is_none (next_event w.machine)) ∷ []
+abbrev pub lines : Whole → List AuditLine
+lines w =
+    credit_lines (contexts_on w.machine.tiles w.machine.links) (packets_on w.machine.links) (facts_of w.setup).grants
+    ++ tile_lines w.setup.tiles w.machine.tiles
+    ++ (AuditLine.Flights (min most (flights w.machine)) ∷ [])
+    ++ AuditLine.Quiet (is_none (next_of w.machine)) ∷ []
 
-pub record EndsWith (lines last : List AuditLine) : Type 0 where
-  pub before : List AuditLine
-  pub parts : lines ≡ before ++ last
+-- ---- the lines that the ideal state and the places have
+
+-- no activity has a program, and no Yield was taken
+pub record IsPlain (h : Site) (m : Machine) : Type 0 where
+  pub programs : Each (λ x. x.has_program ≡ false) h.homes
+  pub yielded : (t : ℕ) → slice_index_or m.kernel.yielded t false ≡ false
+
+-- a grant whose Close was sent is not live
+abbrev pub SentAreShut : List Grant → Type 0
+SentAreShut gs = Each (λ x. x.close_sent ≡ true → is_live x.standing ≡ false) gs
+
+-- the kernel has no context
+abbrev pub NobodyAway : Machine → Type 0
+NobodyAway m = each away m.kernel.seats ≡ []
+
+-- a kept machine whose kernel has no context, with so few flights that they are counted
+pub record IsCounted (w : Whole) : Type 0 where
+  pub kept : IsKept (site w.setup) w.machine
+  pub nobody : NobodyAway (opened w.setup)
+  pub flights_few : length (at w.machine).flights ≤ most
+
+abbrev pub ideal_lines : Whole → List AuditLine
+ideal_lines w = audit_lines w.setup.tiles (at w.machine) (places_of (site w.setup) w.machine) []

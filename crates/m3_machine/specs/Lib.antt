@@ -17,6 +17,7 @@ pub mod Aims
 pub mod Table
 pub mod Next
 pub mod Closing
+pub mod Tally
 pub mod Records
 pub mod Sends
 pub mod Seated

@@ -8,6 +8,8 @@ pub mod memory;
 mod next;
 mod opening;
 mod returning;
+mod roster;
 mod sends;
 mod shown;
+mod tally;
 pub mod tile;

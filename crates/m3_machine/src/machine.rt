@@ -6,8 +6,8 @@ ghost use Rattle.m3_base.specs.declared.order.Order.{Order};
 ghost use Rattle.m3_base.specs.Setup.{IsValid};
 ghost use Rattle.m3_machine.specs.declared.machine.StepRefusal.{StepRefusal};
 ghost use Rattle.m3_kernel.specs.Naming.{is_home};
-ghost use Rattle.m3_machine.specs.Next.{next_event};
-ghost use Rattle.m3_machine.specs.Closing.{EndsWith, last_lines};
+ghost use Rattle.m3_machine.specs.Next.{next_of};
+ghost use Rattle.m3_machine.specs.Closing.{IsCounted, lines, ideal_lines};
 ghost use Rattle.m3_machine.specs.Machine.{link_at};
 ghost use Rattle.m3_machine.specs.Whole.{site, opened_whole, HasParcel, IsOfSetup, IsServed, IsUnserved, Steps};
 
@@ -327,7 +327,7 @@ impl Machine {
     /// sending tile, among links that aren't empty; then the tend of the least activity that is Resting or Coming and for
     /// which something is held; then a close, where a grant is due.
     pub fn next(&self) -> Option<Event>
-        ensures { result ≡ next_event self.now.machine }
+        ensures { result ≡ next_of self.now.machine }
     {
         next_event(&self.wires, &self.kernel)
     }
@@ -335,12 +335,13 @@ impl Machine {
     /// The closing lines: the credits of each send grant, the current activity of each tile from 2 on, the flights, and
     /// whether the driver has nothing more to do.
     pub fn audit(&self, alloc: Global) -> Result<Audit, AllocError>
-        ensures { IfOk result (λ a. EndsWith a.lines.items (last_lines self.now)) }
+        ensures lines { IfOk result (λ a. a.lines.items ≡ lines self.now) }
+        ensures ideal { IsCounted self.now → IfOk result (λ a. a.lines.items ≡ ideal_lines self.now) }
+        ensures few { length self.now.entries ≤ 2097152 }
     {
         let mut lines = Vec::new(alloc);
         credit_lines(
             alloc,
-            self.kernel.site(),
             &self.journal.setup,
             &self.tiles,
             &self.wires,

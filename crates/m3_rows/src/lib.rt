@@ -12,4 +12,6 @@ mod runs;
 #[cfg(test)]
 mod sends;
 #[cfg(test)]
+mod showing;
+#[cfg(test)]
 mod switching;

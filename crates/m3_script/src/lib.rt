@@ -3,6 +3,7 @@
 
 mod commands;
 mod events;
+mod fields;
 mod line;
 mod parsing;
 mod reading;
@@ -14,5 +15,7 @@ pub use m3_text::refusal::Why;
 pub use parsing::parse;
 pub use script::{Mode, Script, ScriptRefusal};
 
+#[cfg(test)]
+mod form_tests;
 #[cfg(test)]
 mod tests;

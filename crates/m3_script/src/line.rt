@@ -3,7 +3,7 @@
 ghost use Rattle.std.specs.Prelude.{◌≡◌, length};
 ghost use Rattle.m3_text.specs.Lines.{texts};
 ghost use Rattle.m3_text.specs.Reads.{Gives};
-ghost use Rattle.m3_script.specs.Forms.{line_of, later_of};
+ghost use Rattle.m3_script.specs.Forms.{line_of, is_grant, later_of};
 
 use crate::events::read_event;
 use crate::setups::{read_act_line, read_grant_line, read_machine};
@@ -38,11 +38,21 @@ pub fn read_words(alloc: Global, words: &[&[u8]]) -> Result<Line, LineRefusal>
     }
 }
 
+#[tactic(auto, unfolding(crate::specs::Forms::is_grant))]
+fn is_grant(words: &[&[u8]]) -> bool
+    ensures { result ≡ is_grant (texts words.now) }
+{
+    begins(&[b"recv"], words)
+        || begins(&[b"send"], words)
+        || begins(&[b"range"], words)
+        || begins(&[b"part"], words)
+}
+
 #[tactic(auto, unfolding(crate::specs::Forms::later_of))]
 fn read_later(alloc: Global, words: &[&[u8]]) -> Result<Line, LineRefusal>
     ensures { Gives (λ l. l) result (later_of (texts words.now)) }
 {
-    if begins(&[b"recv"], words) || begins(&[b"send"], words) {
+    if is_grant(words) {
         Ok(Line::Setup(SetupLine::Grant(read_grant_line(words)?)))
     } else {
         Ok(Line::Event(read_event(alloc, words)?))

@@ -3,8 +3,9 @@
 ghost use Rattle.std.specs.Prelude.{◌≡◌, length};
 ghost use Rattle.m3_text.specs.Lines.{texts};
 ghost use Rattle.m3_text.specs.Reads.{Gives};
-ghost use Rattle.m3_script.specs.Forms.{machine_of, act_of, recv_of, send_of, grant_of};
+ghost use Rattle.m3_script.specs.Forms.{machine_of, act_of, recv_of, send_of, range_of, part_of, grant_of};
 
+use crate::fields::{read_perm, read_u32};
 use crate::line::Line;
 use m3_base::order::GrantLine;
 use m3_base::setup_line::SetupLine;
@@ -49,6 +50,18 @@ pub fn read_grant_line(words: &[&[u8]]) -> Result<GrantLine, LineRefusal>
         words,
     ) {
         read_send(words)
+    } else if fits(
+        &[b"range", b"", b"", b"at", b"", b"len", b"", b"perm", b""],
+        words,
+    ) {
+        read_range(words)
+    } else if fits(
+        &[
+            b"part", b"", b"", b"of", b"", b"at", b"", b"len", b"", b"perm", b"",
+        ],
+        words,
+    ) {
+        read_part(words)
     } else {
         Err(LineRefusal::Bad(Why::Form))
     }
@@ -89,5 +102,47 @@ fn read_send(words: &[&[u8]]) -> Result<GrantLine, LineRefusal>
         of,
         label,
         credits,
+    })
+}
+
+/// `range A E at P len B perm X`
+#[tactic(auto, unfolding(crate::specs::Forms::range_of))]
+fn read_range(words: &[&[u8]]) -> Result<GrantLine, LineRefusal>
+    requires { length words.now ≡ 9 }
+    ensures { Gives (λ l. l) result (range_of (texts words.now)) }
+{
+    let perm = read_perm(word(words, 8))?;
+    let act = read_act(word(words, 1))?;
+    let ep = read_ep(word(words, 2))?;
+    let at = read_u32(word(words, 4))?;
+    let len = number(word(words, 6), 1, 4294967295)? as u32;
+    Ok(GrantLine::Range {
+        act,
+        ep,
+        at,
+        len,
+        perm,
+    })
+}
+
+/// `part A E of G at P len B perm X`
+#[tactic(auto, unfolding(crate::specs::Forms::part_of))]
+fn read_part(words: &[&[u8]]) -> Result<GrantLine, LineRefusal>
+    requires { length words.now ≡ 11 }
+    ensures { Gives (λ l. l) result (part_of (texts words.now)) }
+{
+    let perm = read_perm(word(words, 10))?;
+    let act = read_act(word(words, 1))?;
+    let ep = read_ep(word(words, 2))?;
+    let of = read_grant(word(words, 4))?;
+    let at = read_u32(word(words, 6))?;
+    let len = number(word(words, 8), 1, 4294967295)? as u32;
+    Ok(GrantLine::Part {
+        act,
+        ep,
+        of,
+        at,
+        len,
+        perm,
     })
 }

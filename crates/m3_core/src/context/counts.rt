@@ -1,10 +1,11 @@
-//! The credits of a send grant, in one context.
+//! The credits of send grants, in one context.
 
 ghost use Rattle.std.specs.Prelude.{◌≡◌, ℕ, ◌≤◌, ◌*◌, length, option_map};
 ghost use Rattle.m3_base.specs.Sums.{total};
-ghost use Rattle.m3_base.specs.Credit.{queued_at};
+ghost use Rattle.m3_base.specs.Credit.{held_at, queued_at};
 ghost use Rattle.m3_base.specs.Fits.{send_of};
 ghost use Rattle.m3_core.specs.Places.{held_in};
+ghost use Rattle.m3_endpoint.specs.Counts.{Adds};
 
 use crate::context::Context;
 use crate::context::arrive::send_place;
@@ -28,6 +29,24 @@ impl Context {
         ensures { result ≡ total (queued_at grant) self.now.endpoints }
     {
         queued_in(&self.slots, grant)
+    }
+
+    /// Adds, to the counts of their send grants, the credits that its records hold, and its messages that aren't replies
+    /// and are unread, or fetched and not being replied to.
+    pub fn count(&self, held: &mut [u32], queued: &mut [u32])
+        ensures held { Adds (λ g. total (held_at g) self.now.endpoints) held.old held.new }
+        ensures queued { Adds (λ g. total (queued_at g) self.now.endpoints) queued.old queued.new }
+    {
+        count_slots(&self.slots, held, queued);
+    }
+}
+
+fn count_slots(slots: &[Slot], held: &mut [u32], queued: &mut [u32])
+    ensures held { Adds (λ g. total (held_at g) slots.now) held.old held.new }
+    ensures queued { Adds (λ g. total (queued_at g) slots.now) queued.old queued.new }
+{
+    for slot in slots {
+        slot.count(held, queued);
     }
 }
 

@@ -3,7 +3,8 @@
 ghost use Rattle.std.specs.Prelude.{◌≡◌, ℕ, ◌≤◌, true, false, IsTrue, option_map};
 ghost use Rattle.m3_base.specs.Land.{land_refusal, sends_by, more_at, settled};
 ghost use Rattle.m3_base.specs.Fits.{takes_back, is_returned, is_message};
-ghost use Rattle.m3_base.specs.Credit.{queued_at};
+ghost use Rattle.m3_base.specs.Credit.{held_at, queued_at};
+ghost use Rattle.m3_endpoint.specs.Counts.{Adds};
 ghost use Rattle.m3_core.specs.Places.{send_at, held_in};
 ghost use Rattle.m3_core.specs.FlyingView.{kind_of};
 ghost use Rattle.m3_core.specs.Slots.{joined_if, replied_at};
@@ -13,6 +14,7 @@ use crate::slot::Slot;
 use m3_base::command::{Answer, Refusal};
 use m3_base::ids::GrantId;
 use m3_base::message::Message;
+use m3_endpoint::counts::raise;
 use m3_endpoint::endpoint::Record;
 
 impl Slot {
@@ -127,6 +129,18 @@ impl Slot {
         match &self.occupant {
             Record::Receive(r) => r.queued(grant),
             _ => 0,
+        }
+    }
+
+    /// Adds, to the counts of their send grants, the credits that its record holds, and its messages that owe one.
+    pub fn count(&self, held: &mut [u32], queued: &mut [u32])
+        ensures held { Adds (λ g. held_at g self.now) held.old held.new }
+        ensures queued { Adds (λ g. queued_at g self.now) queued.old queued.new }
+    {
+        match &self.occupant {
+            Record::Send(r) => raise(held, u32::from(r.grant().number()), u32::from(r.held())),
+            Record::Receive(r) => r.count_queued(queued),
+            _ => {}
         }
     }
 }

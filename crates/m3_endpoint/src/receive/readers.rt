@@ -1,15 +1,18 @@
 //! Readers of a receive record.
 
 ghost use Rattle.std.specs.Prelude.{◌≡◌, ℕ, ◌<◌, ◌≤◌, ◌↔◌, ◌==◌, ◌||◌, not, IsTrue, IsSome, IfSome, Some, length, slice_get, option_map, option_copied};
-ghost use Rattle.m3_base.specs.Sums.{how_many};
+ghost use Rattle.m3_base.specs.Sums.{one, how_many};
 ghost use Rattle.m3_base.specs.Fits.{is_form};
-ghost use Rattle.m3_base.specs.Credit.{is_sent_by};
+ghost use Rattle.m3_base.specs.Credit.{is_sent_by, is_owed};
+ghost use Rattle.m3_endpoint.specs.Counts.{Adds};
 ghost use Rattle.m3_endpoint.specs.Forms.{receive_form};
 ghost use Rattle.m3_endpoint.specs.Order.{is_smaller};
 ghost use Rattle.m3_endpoint.specs.Receive.{unread_at, token_in, message_at, unmarked_at, header_or_refusal, reply_header, marked_at, grant_in, size_in, closing_in, next_token_in, unread_count, fetched_count, token_at, message_in_order, queued_in};
 
+use crate::counts::raise;
 use crate::fetched::{FetchedMessage, place_of};
 use crate::receive::ReceiveEp;
+use circular_buffer::HeapCircularBuffer;
 use m3_base::command::Refusal;
 use m3_base::ids::GrantId;
 use m3_base::message::{Header, Message};
@@ -167,7 +170,7 @@ impl ReceiveEp {
 
     /// How many messages that were sent through this grant, and aren't replies, are unread, or fetched and not being
     /// replied to.
-    #[tactic(auto, using(crate::proofs::Counts::counted))]
+    #[tactic(auto, using(crate::proofs::Queued::counted))]
     pub fn queued(&self, grant: GrantId) -> u32
         requires { IsSome self.now }
         ensures count { Some result ≡ option_map (queued_in grant) self.now }
@@ -181,6 +184,16 @@ impl ReceiveEp {
             .filter(|f| is_sent_by(f.message(), grant) && !f.marked())
             .count();
         (unread + fetched) as u32
+    }
+
+    /// Adds, to the counts of their send grants, the messages that aren't replies and are unread, or fetched and not
+    /// being replied to.
+    pub fn count_queued(&self, counts: &mut [u32])
+        requires { IsSome self.now }
+        ensures { IfSome self.now (λ r. Adds (λ g. queued_in g r) counts.old counts.new) }
+    {
+        count_unread(&self.unread, counts);
+        count_fetched(&self.fetched, counts);
     }
 
     /// Whether a message of this token is being replied to.
@@ -200,6 +213,40 @@ fn is_sent_by(message: &Message, grant: u32) -> bool
     ensures { result ≡ is_sent_by grant message.now }
 {
     message.header.flags == 0 && message.header.send == grant
+}
+
+/// Adds a message to the count of its send grant, unless it is a reply.
+fn count_message(message: &Message, counts: &mut [u32])
+    ensures { Adds (λ g. one (is_sent_by g message.now)) counts.old counts.new }
+{
+    if message.header.flags == 0 {
+        raise(counts, message.header.send, 1);
+    }
+}
+
+fn count_unread(unread: &HeapCircularBuffer<Message>, counts: &mut [u32])
+    ensures { Adds (λ g. how_many (is_sent_by g) unread.now.items) counts.old counts.new }
+{
+    for message in unread.iter() {
+        count_message(message, counts);
+    }
+}
+
+/// Adds a fetched message, unless it is being replied to: its credit is its reply's then.
+fn count_owed(fetched: &FetchedMessage, counts: &mut [u32])
+    ensures { Adds (λ g. one (is_owed g fetched.now)) counts.old counts.new }
+{
+    if !fetched.marked() {
+        count_message(fetched.message(), counts);
+    }
+}
+
+fn count_fetched(fetched: &[FetchedMessage], counts: &mut [u32])
+    ensures { Adds (λ g. how_many (is_owed g) fetched.now) counts.old counts.new }
+{
+    for message in fetched {
+        count_owed(message, counts);
+    }
 }
 
 /// Whether a message with this header wants no reply: it is itself a reply, or names no reply endpoint.

@@ -8,32 +8,34 @@ use Rattle.m3_grants.proofs.grants.Grants.closed.Goals as goal
 
 pub drop_child-requires : goal.drop_child-requires
 drop_child-requires c =
-    let nodes = c.self.inside.nodes.items in
+    let nodes = c.self.inside.nodes in
     let x = as_grant c.in_ok-node.node in
     let P : GrantTree → Type 0 = λ t. grant_in t.grants c.args.g ≡ Some x → is_sent_in (grant_in t.grants c.args.g) ≡ true → is_undone_in (grant_in t.grants c.args.g) ≡ true → has_child_under nodes (parent_of x.line) ≡ true in
     rw c.parent.ensures (subst P c.self.view_is (λ e s u.
     let k : IsThere (grants_of nodes) c.args.g x = there_is (grants_of nodes) c.args.g x e s u in
-    child_under nodes c.args.g x (parent_of x.line) refl k.at k.undone c.self.invariant.children (before_of (grants_of nodes) (c.args.g - 1) x (subst (λ o. is_rightful (grants_of nodes) (c.args.g - 1) o ≡ true) k.at (c.self.invariant.rightful (c.args.g - 1))))) (c.in_ok-node.ensures).0 c.requires.sent c.requires.undone)
+    child_under nodes c.args.g x (parent_of x.line) refl k.at k.undone c.self.invariant.tree.children (before_of (grants_of nodes) (c.args.g - 1) x (subst (λ o. is_rightful (grants_of nodes) (c.args.g - 1) o ≡ true) k.at (c.self.invariant.tree.rightful (c.args.g - 1))))) (c.in_ok-node.ensures).0 c.requires.sent c.requires.undone)
 
 pub invariant_of-self : goal.invariant_of-self
 invariant_of-self c =
-    let nodes = c.self.inside.nodes.items in
+    let nodes = c.self.inside.nodes in
     let x = as_grant c.in_ok-node.node in
-    let made : c.mark_done.new.nodes.items ≡ finished nodes c.args.g (parent_of x.line) = grind (arith, c.mark_done.ensures.items, c.drop_child.ensures.items, c.parent.ensures) in
+    let made : c.mark_done.new.nodes ≡ finished nodes c.args.g (parent_of x.line) = grind (arith, c.mark_done.ensures, c.drop_child.ensures, c.parent.ensures) in
     let at : c.slot-at.result ≡ 16 * holder x.line + holder_ep x.line = grind (arith, c.slot-at.ensures.at, c.act.ensures, c.ep.ensures) in
     let act : holder x.line < 64 = grind (arith, c.slot-at.ensures.act, c.act.ensures) in
     let ep : holder_ep x.line < 16 = grind (arith, c.slot-at.ensures.ep, c.ep.ensures) in
     let P : GrantTree → Type 0 = λ t. grant_in t.grants c.args.g ≡ Some x → is_sent_in (grant_in t.grants c.args.g) ≡ true → is_undone_in (grant_in t.grants c.args.g) ≡ true → IsTree (finished nodes c.args.g (parent_of x.line)) (set c.self.inside.held.items (16 * holder x.line + holder_ep x.line) None) c.self.inside.memory in
+    let whole : IsTree c.mark_done.new.nodes (set c.self.inside.held.items c.slot-at.result None) c.self.inside.memory =
     rw (made, at) (subst P c.self.view_is (λ e s u.
     let k : IsThere (grants_of nodes) c.args.g x = there_is (grants_of nodes) c.args.g x e s u in
-    tree_done nodes c.self.inside.held.items c.self.inside.memory c.args.g x c.self.invariant k.some k.at k.undone k.sent act ep) (c.in_ok-node.ensures).0 c.requires.sent c.requires.undone)
+    tree_done nodes c.self.inside.held.items c.self.inside.memory c.args.g x c.self.invariant.tree k.some k.at k.undone k.sent act ep) (c.in_ok-node.ensures).0 c.requires.sent c.requires.undone) in
+    record { tree = whole; none = c.self.invariant.none; spare = c.self.invariant.spare }
 
 pub returns-clause-done : goal.returns-clause-done
 returns-clause-done c =
-    let nodes = c.self.inside.nodes.items in
+    let nodes = c.self.inside.nodes in
     let x = as_grant c.in_ok-node.node in
-    let made : c.mark_done.new.nodes.items ≡ finished nodes c.args.g (parent_of x.line) = grind (arith, c.mark_done.ensures.items, c.drop_child.ensures.items, c.parent.ensures) in
-    let P : GrantTree → Type 0 = λ t. grant_in t.grants c.args.g ≡ Some x → is_sent_in (grant_in t.grants c.args.g) ≡ true → is_undone_in (grant_in t.grants c.args.g) ≡ true → tree_of c.self.inside.memory (grants_of c.mark_done.new.nodes.items) ≡ tree_of t.memory (with_done t.grants c.args.g) in
+    let made : c.mark_done.new.nodes ≡ finished nodes c.args.g (parent_of x.line) = grind (arith, c.mark_done.ensures, c.drop_child.ensures, c.parent.ensures) in
+    let P : GrantTree → Type 0 = λ t. grant_in t.grants c.args.g ≡ Some x → is_sent_in (grant_in t.grants c.args.g) ≡ true → is_undone_in (grant_in t.grants c.args.g) ≡ true → tree_of c.self.inside.memory (grants_of c.mark_done.new.nodes) ≡ tree_of t.memory (with_done t.grants c.args.g) in
     subst P c.self.view_is (λ e s u.
     let k : IsThere (grants_of nodes) c.args.g x = there_is (grants_of nodes) c.args.g x e s u in
     ap (tree_of c.self.inside.memory) (ap grants_of made ∙ grants_done nodes c.args.g (parent_of x.line) k.some)) (c.in_ok-node.ensures).0 c.requires.sent c.requires.undone

@@ -10,19 +10,19 @@ use Rattle.m3_grants.proofs.grants.Grants.held.Goals as goal
 pub returns-clause-held : goal.returns-clause-held
 returns-clause-held c =
     let r = c.index.result.now in
-    let at : r ≡ get_or c.self.inside.held.items c.slot-at.result None = slot_is c.self.inside.held.items c.slot-at.result r (omega (arith, c.self.invariant.room, c.slot-at.ensures.range)) c.index.ensures in
+    let at : r ≡ get_or c.self.inside.held.items c.slot-at.result None = slot_is c.self.inside.held.items c.slot-at.result r (omega (arith, c.self.invariant.tree.room, c.slot-at.ensures.range)) c.index.ensures in
     let slot : r ≡ get_or c.self.inside.held.items (16 * c.args.act + c.args.ep) None = at ∙ ap (λ n. get_or c.self.inside.held.items n None) c.slot-at.ensures.at in
-    let number : is_some_number r ≡ true = subst (λ o. is_some_number o ≡ true) (sym at) (c.self.invariant.numbers c.slot-at.result) in
-    let holds : (i : ℕ) → holds_in c.args.act c.args.ep (slice_get (grants_of c.self.inside.nodes.items) i) ≡ is_number (i + 1) r = λ i. c.self.invariant.held c.args.act c.args.ep i c.slot-at.ensures.act c.slot-at.ensures.ep ∙ ap (is_number (i + 1)) (sym slot) in
+    let number : is_some_number r ≡ true = subst (λ o. is_some_number o ≡ true) (sym at) (c.self.invariant.tree.numbers c.slot-at.result) in
+    let holds : (i : ℕ) → holds_in c.args.act c.args.ep (slice_get (grants_of c.self.inside.nodes) i) ≡ is_number (i + 1) r = λ i. c.self.invariant.tree.held c.args.act c.args.ep i c.slot-at.ensures.act c.slot-at.ensures.ep ∙ ap (is_number (i + 1)) (sym slot) in
     let P : GrantTree → Type 0 = λ t. IsHeld t.grants c.args.act c.args.ep r in
-    subst P c.self.view_is (is_held c.args.act c.args.ep (grants_of c.self.inside.nodes.items) r (some_is r number) holds)
+    subst P c.self.view_is (is_held c.args.act c.args.ep (grants_of c.self.inside.nodes) r (some_is r number) holds)
 
 pub returns-clause-some : goal.returns-clause-some
 returns-clause-some c =
     let r = c.index.result.now in
-    let at : r ≡ get_or c.self.inside.held.items c.slot-at.result None = slot_is c.self.inside.held.items c.slot-at.result r (omega (arith, c.self.invariant.room, c.slot-at.ensures.range)) c.index.ensures in
+    let at : r ≡ get_or c.self.inside.held.items c.slot-at.result None = slot_is c.self.inside.held.items c.slot-at.result r (omega (arith, c.self.invariant.tree.room, c.slot-at.ensures.range)) c.index.ensures in
     let slot : r ≡ get_or c.self.inside.held.items (16 * c.args.act + c.args.ep) None = at ∙ ap (λ n. get_or c.self.inside.held.items n None) c.slot-at.ensures.at in
-    let number : is_some_number r ≡ true = subst (λ o. is_some_number o ≡ true) (sym at) (c.self.invariant.numbers c.slot-at.result) in
-    let holds : (i : ℕ) → holds_in c.args.act c.args.ep (slice_get (grants_of c.self.inside.nodes.items) i) ≡ is_number (i + 1) r = λ i. c.self.invariant.held c.args.act c.args.ep i c.slot-at.ensures.act c.slot-at.ensures.ep ∙ ap (is_number (i + 1)) (sym slot) in
+    let number : is_some_number r ≡ true = subst (λ o. is_some_number o ≡ true) (sym at) (c.self.invariant.tree.numbers c.slot-at.result) in
+    let holds : (i : ℕ) → holds_in c.args.act c.args.ep (slice_get (grants_of c.self.inside.nodes) i) ≡ is_number (i + 1) r = λ i. c.self.invariant.tree.held c.args.act c.args.ep i c.slot-at.ensures.act c.slot-at.ensures.ep ∙ ap (is_number (i + 1)) (sym slot) in
     let P : GrantTree → Type 0 = λ t. is_some r ≡ list_any (holds_at c.args.act c.args.ep) t.grants in
-    subst P c.self.view_is (any_held c.args.act c.args.ep (grants_of c.self.inside.nodes.items) r (some_is r number) holds)
+    subst P c.self.view_is (any_held c.args.act c.args.ep (grants_of c.self.inside.nodes) r (some_is r number) holds)

@@ -1,0 +1,8 @@
+use Rattle.std.proofs.Common.{drop}
+use Rattle.m3_base.specs.Sums.{how_many}
+use Rattle.m3_base.specs.Credit.{is_owed}
+use Rattle.m3_endpoint.proofs.Adding.{Left}
+use Rattle.m3_endpoint.proofs.receive.readers.count_fetched.Given as goal
+
+abbrev pub invariant-loop-message : goal.invariant-loop-message
+invariant-loop-message l = Left (λ g. how_many (is_owed g) l.fetched) (λ g. how_many (is_owed g) (drop l.message-index l.fetched)) l.fn.counts l.counts

@@ -1,0 +1,11 @@
+use Rattle.std.proofs.Common.{subst}
+use Rattle.m3_base.specs.State.{grant_in}
+use Rattle.m3_grants.specs.Tree.{GrantTree}
+use Rattle.m3_grants.specs.Nodes.{Stands}
+use Rattle.m3_grants.proofs.Lookups.{stands_at}
+use Rattle.m3_grants.proofs.grants.Grants.get.Goals as goal
+
+pub returns : goal.returns
+returns c =
+    let P : GrantTree → Type 0 = λ t. Stands t.grants c.args.g (grant_in t.grants c.args.g) c.get.result in
+    subst P c.self.view_is (rw c.get.ensures.found (stands_at c.self.inside.nodes c.args.g c.get.ensures.some c.self.invariant.tree.children))

@@ -1,0 +1,38 @@
+use Rattle.std.proofs.Common.{◌≡◌, ◌++◌, ◌∙◌, map, ap, subst, sym, List}
+use Rattle.std.specs.declared.collections.vec_deque.Iter.{Iter}
+use Rattle.m3_core.specs.declared.parcel.Parcel.{Parcel as CodeParcel}
+use Rattle.m3_kernel.specs.Parcels.{parcel_of}
+use Rattle.m3_machine.specs.At.{each, contexts_in, packets_in}
+use Rattle.m3_machine.specs.Tally.{listed}
+use Rattle.m3_machine.proofs.Entering.{none_left}
+use Rattle.m3_machine.proofs.Tallying.{LeftOf, counted, counted_all}
+use Rattle.m3_machine.proofs.tally.Tally.link.Goals as goal
+
+pub loop-parcel-init : goal.loop-parcel-init
+loop-parcel-init c =
+    let cs = λ (ps : List CodeParcel). each contexts_in (map parcel_of ps) in
+    let ds = λ (ps : List CodeParcel). each packets_in (map parcel_of ps) in
+    let items = c.args.link.now.items in
+    let all : c.into_iter-parcel-iterator.result.head.now ++ c.into_iter-parcel-iterator.result.wrapped.now ≡ items =
+    ap (λ (it : Iter CodeParcel). it.head.now ++ it.wrapped.now) c.into_iter-parcel-iterator.ensures.into_iter_gives ∙ c.iter-parcel-items.ensures.rest in
+    subst (λ (ps : List CodeParcel). LeftOf (listed c.args.roster.now) (cs items) (ds items) (cs ps) (ds ps) c.args.self.now c.args.self.now) (sym all) (λ last k. k)
+
+pub loop-parcel-preserved : goal.loop-parcel-preserved
+loop-parcel-preserved c =
+    let cs = λ (ps : List CodeParcel). each contexts_in (map parcel_of ps) in
+    let ds = λ (ps : List CodeParcel). each packets_in (map parcel_of ps) in
+    let items = c.args.link.now.items in
+    let q = parcel_of c.in-Some.parcel.now in
+    let rest = c.loop-parcel.parcel-iterator.head.now ++ c.loop-parcel.parcel-iterator.wrapped.now in
+    let left = c.next.new.self.head.now ++ c.next.new.self.wrapped.now in
+    counted (listed c.args.roster.now) (cs items) (cs rest) (contexts_in q) (cs left) (ds items) (ds rest) (packets_in q) (ds left) c.args.self.now c.loop-parcel.self c.parcel.new.self
+    (ap cs c.in-Some.ensures.steps) (ap ds c.in-Some.ensures.steps) c.loop-parcel.invariant c.parcel.ensures
+
+pub returns : goal.returns
+returns c =
+    let cs = λ (ps : List CodeParcel). each contexts_in (map parcel_of ps) in
+    let ds = λ (ps : List CodeParcel). each packets_in (map parcel_of ps) in
+    let items = c.args.link.now.items in
+    let rest = c.loop-parcel.parcel-iterator.head.now ++ c.loop-parcel.parcel-iterator.wrapped.now in
+    let none = none_left rest c.in-None.ensures.steps.0 in
+    counted_all (listed c.args.roster.now) (cs items) (cs rest) (ds items) (ds rest) c.args.self.now c.loop-parcel.self (ap cs none) (ap ds none) c.loop-parcel.invariant

@@ -1,0 +1,14 @@
+use Rattle.std.proofs.Common.{sym, subst}
+use Rattle.m3_core.specs.declared.parcel.Parcel.{Parcel as CodeParcel}
+use Rattle.m3_kernel.specs.Parcels.{parcel_of}
+use Rattle.m3_machine.specs.At.{contexts_in, packets_in}
+use Rattle.m3_machine.specs.Tally.{listed, Counts}
+use Rattle.m3_machine.proofs.tally.Tally.parcel.Goals as goal
+
+pub returns-in-Saved : goal.returns-in-Saved
+returns-in-Saved c =
+    subst (λ (q : CodeParcel). Counts (listed c.args.roster.now) (contexts_in (parcel_of q)) (packets_in (parcel_of q)) c.args.self.now c.context.new.self) (sym c.in-Saved.is) (c.context.ensures (listed c.args.roster.now))
+
+pub returns-in-Restore : goal.returns-in-Restore
+returns-in-Restore c =
+    subst (λ (q : CodeParcel). Counts (listed c.args.roster.now) (contexts_in (parcel_of q)) (packets_in (parcel_of q)) c.args.self.now c.context-in-Restore.new.self) (sym c.in-Restore.is) (c.context-in-Restore.ensures (listed c.args.roster.now))

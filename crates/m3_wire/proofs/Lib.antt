@@ -1,0 +1,11 @@
+pub mod Results
+pub mod Exact
+pub mod Little
+pub mod Numbers
+pub mod Walking
+pub mod Joined
+pub mod Bytes
+pub mod Formats
+pub mod ByKind
+pub mod Carried
+pub mod Decoding

@@ -1,0 +1,87 @@
+//! Fields that several packets have.
+
+ghost use Rattle.std.specs.Prelude.{◌≡◌, ◌≤◌, IfOk};
+ghost use Rattle.m3_wire.specs.Reading.{Gives, Reads};
+ghost use Rattle.m3_wire.specs.Formats.{act, ep, grant, count, label, place, most_from, act_id, kernel_id, counted};
+
+use crate::input::Input;
+use crate::refusal::{Fault, ReadError};
+use m3_base::ids::{ActId, EpId, FlightId, GrantId};
+use m3_base::payload::Payload;
+use std::alloc::Global;
+
+/// No place in memory is above this.
+pub const MOST_MEMORY: u32 = 1_048_576;
+
+impl<'a> Input<'a> {
+    pub fn act(&mut self) -> Result<ActId, Fault>
+        ensures { Gives result self.new.rest.now (act self.old.rest.now) }
+    {
+        let number = self.small(0, 63)?;
+        Ok(ActId::new(number))
+    }
+
+    pub fn ep(&mut self) -> Result<EpId, Fault>
+        ensures { Gives result self.new.rest.now (ep self.old.rest.now) }
+    {
+        let number = self.small(0, 15)?;
+        Ok(EpId::new(number))
+    }
+
+    pub fn grant(&mut self) -> Result<GrantId, Fault>
+        ensures { Gives result self.new.rest.now (grant self.old.rest.now) }
+    {
+        let number = self.number(4, 1, 4096)?;
+        Ok(GrantId::new(number as u16))
+    }
+
+    /// The number of a flight.
+    pub fn count(&mut self) -> Result<u32, Fault>
+        ensures { Gives result self.new.rest.now (count self.old.rest.now) }
+    {
+        let number = self.number(4, 1, u32::MAX as u64)?;
+        Ok(number as u32)
+    }
+
+    pub fn label(&mut self) -> Result<u64, Fault>
+        ensures { Gives result self.new.rest.now (label self.old.rest.now) }
+    {
+        self.number(8, 0, u64::MAX)
+    }
+
+    pub fn place(&mut self) -> Result<u32, Fault>
+        ensures value { Gives result self.new.rest.now (place self.old.rest.now) }
+        ensures range { IfOk result (λ p. p ≤ 1048576) }
+    {
+        let place = self.number(4, 0, MOST_MEMORY as u64)?;
+        Ok(place as u32)
+    }
+
+    /// The name of an activity's flight.
+    #[tactic(auto, unfolding(crate::specs::Reading::pair, crate::specs::Reading::mapped))]
+    pub fn act_id(&mut self) -> Result<FlightId, Fault>
+        ensures { Gives result self.new.rest.now (act_id self.old.rest.now) }
+    {
+        let issuer = self.small(0, 63)?;
+        let number = self.count()?;
+        Ok(FlightId { issuer, number })
+    }
+
+    /// The name of a flight of the kernel, of which its number alone is spelled.
+    #[tactic(auto, unfolding(crate::specs::Reading::mapped))]
+    pub fn kernel_id(&mut self) -> Result<FlightId, Fault>
+        ensures { Gives result self.new.rest.now (kernel_id self.old.rest.now) }
+    {
+        let number = self.count()?;
+        Ok(FlightId { issuer: 64, number })
+    }
+
+    /// At most `most` bytes behind their number.
+    #[tactic(auto, unfolding(crate::specs::Reading::pair, crate::specs::Reading::mapped))]
+    pub fn counted(&mut self, alloc: Global, most: u16) -> Result<Payload, ReadError>
+        ensures { Reads result self.new.rest.now (counted most self.old.rest.now) }
+    {
+        let len = self.number(2, 0, most as u64)?;
+        self.payload(alloc, len as usize)
+    }
+}

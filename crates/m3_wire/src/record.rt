@@ -1,0 +1,103 @@
+//! Answers and records, as packets carry them.
+
+ghost use Rattle.std.specs.Prelude.{◌≡◌};
+ghost use Rattle.m3_wire.specs.Reading.{Gives, Reads};
+ghost use Rattle.m3_wire.specs.Formats.{answer, fresh, fresh_by};
+ghost use Rattle.m3_wire.specs.declared.codes.RecordForm.TheVariants as RecordForm;
+
+use crate::codes::{AnswerForm, RecordForm};
+use crate::fields::MOST_MEMORY;
+use crate::input::Input;
+use crate::refusal::{Fault, ReadError};
+use m3_base::command::{Answer, Refusal};
+use m3_base::packet::{Fresh, Perm};
+use std::alloc::Global;
+
+impl<'a> Input<'a> {
+    /// An answer.
+    #[tactic(auto, unfolding(crate::specs::Reading::pair, crate::specs::Reading::mapped))]
+    pub fn answer(&mut self, alloc: Global) -> Result<Answer, ReadError>
+        ensures { Reads result self.new.rest.now (answer self.old.rest.now) }
+    {
+        let form: AnswerForm = self.coded()?;
+        match form {
+            AnswerForm::Sent => Ok(Answer::Sent),
+            AnswerForm::Replied => Ok(Answer::Replied),
+            AnswerForm::Written => Ok(Answer::Written),
+            AnswerForm::Bytes => {
+                let bytes = self.counted(alloc, 4096)?;
+                Ok(Answer::Bytes(bytes))
+            }
+            AnswerForm::Refused => {
+                let why: Refusal = self.coded()?;
+                Ok(Answer::Refused(why))
+            }
+        }
+    }
+
+    /// A record.
+    #[tactic(auto, unfolding(crate::specs::Reading::pair, crate::specs::Reading::mapped))]
+    pub fn fresh(&mut self) -> Result<Fresh, Fault>
+        ensures { Gives result self.new.rest.now (fresh self.old.rest.now) }
+    {
+        let form: RecordForm = self.coded()?;
+        match form {
+            RecordForm::Send => self.send_record(),
+            RecordForm::Receive => self.receive_record(),
+            RecordForm::Memory => self.memory_record(),
+        }
+    }
+
+    #[tactic(auto, unfolding(crate::specs::Reading::pair, crate::specs::Reading::mapped))]
+    fn send_record(&mut self) -> Result<Fresh, Fault>
+        ensures { Gives result self.new.rest.now (fresh_by RecordForm.Send self.old.rest.now) }
+    {
+        let grant = self.grant()?;
+        let to = self.act()?;
+        let to_ep = self.ep()?;
+        let to_grant = self.grant()?;
+        let label = self.label()?;
+        let size = self.number(2, 1, 512)?;
+        let limit = self.small(1, 32)?;
+        Ok(Fresh::Send {
+            grant,
+            to,
+            to_ep,
+            to_grant,
+            label,
+            size: size as u16,
+            limit,
+        })
+    }
+
+    #[tactic(auto, unfolding(crate::specs::Reading::pair, crate::specs::Reading::mapped))]
+    fn receive_record(&mut self) -> Result<Fresh, Fault>
+        ensures { Gives result self.new.rest.now (fresh_by RecordForm.Receive self.old.rest.now) }
+    {
+        let grant = self.grant()?;
+        let slots = self.small(1, 32)?;
+        let size = self.number(2, 1, 512)?;
+        Ok(Fresh::Receive {
+            grant,
+            slots,
+            size: size as u16,
+        })
+    }
+
+    // The range lies inside the largest memory and isn't empty.
+    #[tactic(auto, unfolding(crate::specs::Reading::pair, crate::specs::Reading::mapped))]
+    fn memory_record(&mut self) -> Result<Fresh, Fault>
+        ensures { Gives result self.new.rest.now (fresh_by RecordForm.Memory self.old.rest.now) }
+    {
+        let grant = self.grant()?;
+        let start = self.number(4, 0, (MOST_MEMORY - 1) as u64)?;
+        let length = self.number(4, 1, MOST_MEMORY as u64 - start)?;
+        let perm: Perm = self.coded()?;
+        Ok(Fresh::Memory {
+            grant,
+            start: start as u32,
+            length: length as u32,
+            perm,
+        })
+    }
+}
