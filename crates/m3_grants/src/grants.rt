@@ -178,6 +178,14 @@ impl Grants {
         Ok(grant)
     }
 
+    /// How many grants were made.
+    pub fn count(&self) -> u16
+        ensures count { result ≡ length self.now.grants }
+        ensures range { result ≤ 4096 }
+    {
+        self.nodes.len() as u16
+    }
+
     /// Makes a live grant of this line. Its number is the next one. The refusals come exactly where they stand, and the
     /// first of them where there are several: the order of the variants of `GrantRefusal`. `NoMemory` comes only where
     /// no other does. After a refusal nothing has changed.

@@ -1,20 +1,15 @@
 -- The tend and the close that a machine does next are those of the places.
-use Rattle.std.proofs.Common.{◌≡◌, cond, List, [], ◌∷◌, length, map, Some, None, refl, sym, ap, ◌∙◌}
+use Rattle.std.proofs.Common.{◌≡◌, cond, List, [], ◌∷◌, length, map, Some, refl, sym, ap, ◌∙◌}
 use Rattle.std.specs.Prelude.{not, ◌&&◌, ◌||◌, ◌==◌}
 use Rattle.m3_base.specs.Places as places
 use Rattle.m3_base.specs.Driver as driver
-use Rattle.m3_base.specs.Driver.{least_of, first_some, tend_of, close_of}
+use Rattle.m3_base.specs.Driver.{least_of}
 use Rattle.m3_kernel.specs.Parts.{Home, Site, Seat}
 use Rattle.m3_kernel.specs.Kernel.{is_placed_seat, is_leaving_seat}
 use Rattle.m3_machine.specs.Machine.{Machine}
-use Rattle.m3_machine.specs.At.{at, actor_in, places_of}
-use Rattle.m3_machine.specs.Next.{next_take, can_tend, least_tend, next_of}
+use Rattle.m3_machine.specs.At.{actor_in, places_of}
+use Rattle.m3_machine.specs.Next.{can_tend, least_tend}
 use Rattle.m3_machine.specs.Sound.{IsSound}
-use Rattle.m3_machine.specs.Kept.{IsKept}
-use Rattle.m3_machine.specs.Closing.{IsPlain}
-use Rattle.m3_machine.proofs.Closes.{least}
-use Rattle.m3_machine.proofs.FromLaws.{quiet_hypotheses}
-use Rattle.m3_machine.proofs.Quieting.{next_plain}
 use Rattle.m3_machine.proofs.Beside.{SeatOf, AreSeats, are_seats, actor_place, actor_hold, length-names, placed_same, leaving_same}
 
 module _ (h : Site) (m : Machine) where
@@ -34,9 +29,3 @@ module _ (h : Site) (m : Machine) where
   -- the least activity that can be tended
   pub tend_same : IsSound h m → driver.least_tend (places_of h m).actors ≡ least_tend m.kernel.seats
   tend_same sound = tend_along m.kernel.seats h.homes (are_seats h m.kernel sound.housed.seats sound.setup.homes)
-
--- what the machine does next is what the driver does next in its ideal state and its places
-pub next_is : (h : Site) (m : Machine) → IsKept h m → IsPlain h m → driver.next_event (at m) (places_of h m) [] ≡ next_of m
-next_is h m kept plain =
-    next_plain h m plain
-    ∙ (λ i. first_some (next_take m ∷ tend_of (tend_same h m kept.sound i) ∷ close_of (least h m kept.sound (quiet_hypotheses h m kept.sound kept.law.law kept.law.quiet) None i) ∷ []))

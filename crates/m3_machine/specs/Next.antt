@@ -38,12 +38,12 @@ least_tend [] = None
 least_tend (x ∷ xs) = if can_tend x then Some (least_of (least_tend xs) x.act) else least_tend xs
 
 -- then the tend of the least activity that can be tended, then a close where a grant is due
-abbrev pub next_from : Option Event → Kernel → Option Event
-next_from take k = first_some (take ∷ tend_of (least_tend k.seats) ∷ close_of (least_closing k.grants 1 k.grants) ∷ [])
+abbrev pub next_of : Option Event → Kernel → Option Event
+next_of take k = first_some (take ∷ tend_of (least_tend k.seats) ∷ close_of (least_closing k.grants 1 k.grants) ∷ [])
 
 -- what the driver does next, where no program makes a move, no Yield was taken and no order is left
-abbrev pub next_of : Machine → Option Event
-next_of m = next_from (next_take m) m.kernel
+abbrev pub next_event : Machine → Option Event
+next_event m = next_of (next_take m) m.kernel
 
 -- so many tiles from t on, by the current activity of each tile
 abbrev pub tile_lines_from : ℕ → ℕ → List (Option ℕ) → List AuditLine

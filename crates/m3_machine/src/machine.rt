@@ -6,12 +6,12 @@ ghost use Rattle.m3_base.specs.declared.order.Order.{Order};
 ghost use Rattle.m3_base.specs.Setup.{IsValid};
 ghost use Rattle.m3_machine.specs.declared.machine.StepRefusal.{StepRefusal};
 ghost use Rattle.m3_kernel.specs.Naming.{is_home};
-ghost use Rattle.m3_machine.specs.Next.{next_of};
+ghost use Rattle.m3_machine.specs.Next.{next_event};
 ghost use Rattle.m3_machine.specs.Closing.{IsCounted, lines, ideal_lines};
 ghost use Rattle.m3_machine.specs.Machine.{link_at};
 ghost use Rattle.m3_machine.specs.Whole.{site, opened_whole, HasParcel, IsOfSetup, IsServed, IsUnserved, Steps};
 
-use crate::audit::{credit_lines, tile_lines};
+use crate::audit::{credit_lines, flights, tile_lines};
 use crate::memory::MemPart;
 use crate::next::next_event;
 use crate::opening::{contexts, seated};
@@ -327,7 +327,7 @@ impl Machine {
     /// sending tile, among links that aren't empty; then the tend of the least activity that is Resting or Coming and for
     /// which something is held; then a close, where a grant is due.
     pub fn next(&self) -> Option<Event>
-        ensures { result ≡ next_of self.now.machine }
+        ensures { result ≡ next_event self.now.machine }
     {
         next_event(&self.wires, &self.kernel)
     }
@@ -340,15 +340,17 @@ impl Machine {
         ensures few { length self.now.entries ≤ 2097152 }
     {
         let mut lines = Vec::new(alloc);
+        let seats = self.kernel.seats();
         credit_lines(
             alloc,
-            &self.journal.setup,
+            self.kernel.grants(),
             &self.tiles,
+            seats,
             &self.wires,
             &mut lines,
         )?;
         tile_lines(self.journal.setup.tiles(), &self.tiles, &mut lines)?;
-        lines.push(AuditLine::Flights(self.wires.flights()))?;
+        lines.push(AuditLine::Flights(flights(seats, &self.wires)))?;
         lines.push(AuditLine::Quiet(self.next().is_none()))?;
         Ok(Audit { lines })
     }

@@ -3,7 +3,7 @@
 ghost use Rattle.std.specs.Prelude.{◌≡◌};
 ghost use Rattle.m3_base.specs.Driver.{least_of};
 ghost use Rattle.m3_kernel.specs.Seats.{seat_value, seats_of};
-ghost use Rattle.m3_machine.specs.Next.{next_take_at, next_take_on, can_tend, least_tend, next_from};
+ghost use Rattle.m3_machine.specs.Next.{next_take_at, next_take_on, can_tend, least_tend, next_of};
 
 use m3_base::event::Event;
 use m3_base::ids::{ActId, TileId};
@@ -79,7 +79,7 @@ fn least_tend(seats: &[Seat]) -> Option<ActId>
 /// The take at the least receiving tile, then from the least sending tile; then the tend of the least activity that is
 /// away and for which something is held; then a close, where a grant is due.
 pub fn next_event(wires: &Wires, kernel: &Kernel) -> Option<Event>
-    ensures { result ≡ next_from (next_take_on wires.now.lists) kernel.now.kernel }
+    ensures { result ≡ next_of (next_take_on wires.now.lists) kernel.now.kernel }
 {
     let take = next_take(wires);
     if take.is_some() {
