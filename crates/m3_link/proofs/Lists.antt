@@ -1,5 +1,5 @@
 -- One link of many that changes: what it holds, and its spare places.
-use Rattle.std.proofs.Common.{◌≡◌, ℕ, ◌+◌, ◌-◌, ◌<◌, ◌≤◌, List, [], ◌∷◌, ◌++◌, length, drop, map, set, get_or, Option, None, Some, Result, Ok, Err, OnOk, refl, sym, ap, ◌∙◌, subst, ⊎_elim, arith}
+use Rattle.std.proofs.Common.{◌≡◌, ℕ, ◌+◌, ◌-◌, ◌<◌, ◌≤◌, List, [], length, map, set, get_or, Option, None, Some, Result, Ok, Err, OnOk, sym, ap, ◌∙◌, ⊎_elim, arith}
 use Rattle.std.specs.Prelude.{MatchOption, IsSome}
 use Rattle.std.proofs.lemmas.List.{map-set, get_or-map, set-get_or, get_or-set_same, get_or-set_other, length-map}
 use Rattle.std.proofs.lemmas.Bool.{cases_eq}
@@ -7,7 +7,7 @@ use Rattle.std.specs.VecDeque.{deque_len, deque_capacity}
 use Rattle.std.specs.declared.collections.VecDeque.{VecDeque}
 use Rattle.std.specs.declared.alloc.Global.{Global}
 use Rattle.m3_core.specs.declared.parcel.Parcel.{Parcel}
-use Rattle.m3_link.specs.Links.{list_at, popped, spare_at, filled, freed}
+use Rattle.m3_link.specs.Links.{list_at, spare_at, filled, freed}
 use Rattle.m3_link.specs.Wires.{Wires, lists_in, spare_in, wires_of}
 
 module _ (links : List (VecDeque Parcel Global)) (k : ℕ) (r : VecDeque Parcel Global) (within : k < length links) (read : r ≡ get_or links k r)

@@ -3,7 +3,6 @@ use Rattle.std.proofs.Common.{◌≡◌, ℕ, zero, suc, ◌+◌, ◌≤◌, ◌
 use Rattle.std.specs.Prelude.{not, ◌==◌, ◌||◌, ◌&&◌, if◌then◌else◌}
 use Rattle.std.proofs.lemmas.Bool.Decides.{nat_tests}
 use Rattle.m3_base.specs.declared.journal.AuditLine.{AuditLine}
-use Rattle.m3_base.specs.declared.event.Entry.{Entry}
 use Rattle.m3_base.specs.declared.event.Event.{Event}
 use Rattle.m3_base.specs.declared.packet.Fresh.{Fresh}
 use Rattle.m3_base.specs.declared.packet.Packet.{Packet}
@@ -19,7 +18,7 @@ use Rattle.m3_base.specs.Grants.{form}
 use Rattle.m3_base.specs.Legal as legal
 use Rattle.m3_base.specs.Legal.{flights_lines}
 use Rattle.m3_base.specs.Opening.{opening, granted, with_line, with_lines}
-use Rattle.m3_base.specs.Setup.{SetupValue, IsValid, facts_of}
+use Rattle.m3_base.specs.Setup.{SetupValue}
 use Rattle.m3_base.specs.State.{State, Standing, Live, Closing, Closed, Done, Grant, grant_in, is_live, is_done, parent_in, parent_of, context_of}
 use Rattle.m3_endpoint.specs.Counts.{most}
 use Rattle.m3_laws.specs.Laws.{is_open, limit_of}
@@ -28,7 +27,7 @@ use Rattle.m3_merge.specs.Parts.{Each}
 use Rattle.m3_kernel.specs.Kernel.{is_under_close, ready_at}
 use Rattle.m3_kernel.specs.Parts.{Home, Site, Tile}
 use Rattle.m3_machine.specs.Machine.{Machine, with_seats, seated_at_opening, context_or_new, joined_ready, is_there, tile_at}
-use Rattle.m3_machine.specs.At.{at, places_of, each, here, away, held_by, on_links, contexts_in, packets_in, all_contexts, all_packets, all_closed, is_in, closed_if, closed_from}
+use Rattle.m3_machine.specs.At.{at, places_of, all_contexts, all_packets, all_closed, is_in, closed_if, closed_from}
 use Rattle.m3_machine.specs.Closing.{SentAreShut, credit_line, live_lines_from, live_lines, held_count, flying_count, queued_count, lines, ideal_lines, IsCounted}
 use Rattle.m3_machine.specs.Kept.{IsNew, IsStill, IsKept}
 use Rattle.m3_machine.specs.Next.{next_event, tile_lines}
@@ -184,6 +183,7 @@ under_sent x e = first x.close_sent (not (is_done x.standing)) e
 module _ (h : Site) (m : Machine) (kept : IsKept h m) (shut : SentAreShut m.kernel.grants) where
   abbrev cs : List Context
   cs = all_contexts m
+
   abbrev ps : List Packet
   ps = all_packets m
 

@@ -1,5 +1,5 @@
 -- Where what the kernel sends goes: to the home of the packet's activity, to the tile of who comes, or to itself.
-use Rattle.std.proofs.Common.{◌≡◌, ℕ, Bool, true, false, List, [], ◌∷◌, ◌++◌, length, Option, Some, None, refl, sym, subst, ap, ◌∙◌, arith}
+use Rattle.std.proofs.Common.{◌≡◌, ℕ, Bool, true, false, List, [], ◌∷◌, ◌++◌, Option, Some, None, refl, sym, subst, arith}
 use Rattle.std.specs.Prelude.{if◌then◌else◌, ◌==◌, ◌&&◌, ◌||◌, not}
 use Rattle.std.specs.List.{list_any}
 use Rattle.std.proofs.lemmas.Bool.Decides.{nat_tests}
@@ -12,7 +12,6 @@ use Rattle.m3_base.specs.declared.message.Message.{Message}
 use Rattle.m3_base.specs.declared.packet.Packet.{Packet}
 use Rattle.m3_base.specs.declared.event.Said.{Said}
 use Rattle.m3_base.specs.declared.event.No.{No}
-use Rattle.m3_base.specs.Flight.{name_of}
 use Rattle.m3_base.specs.Context.{Context, Flying, endpoint, with_endpoint}
 use Rattle.m3_base.specs.Land.{land_by, land_refusal, has_live, closed_at, flies_at, flying_at}
 use Rattle.m3_base.specs.State.{Grant, grant_in}
@@ -22,8 +21,8 @@ use Rattle.m3_base.specs.Fits.{fits, arrive_fit}
 use Rattle.m3_core.specs.declared.parcel.Parcel.{Parcel as CodeParcel}
 use Rattle.m3_kernel.specs.Naming.{is_named}
 use Rattle.m3_kernel.specs.Parcels.{parcel_of}
-use Rattle.m3_kernel.specs.Parts.{Site, tile_of, has_program, Parcel, Data, Save, Saved, Restore, Yield, Closed, Away, Seating, Is_placed, Is_leaving, Is_resting, Is_coming, Seat, Kernel, says, dropped, closed_out}
-use Rattle.m3_kernel.specs.Kernel.{seat_of, seated, with_seat, is_placed_seat, is_leaving_seat, is_coming_seat, join_ready, with_yielded, Routed, hold, route_to, seat_for, route, first_due, is_due_seat, is_leaving_at, restored_by, restored, then_restore, take_routed, rests, take_saved, done_grant, is_under_close, take_closed, take_yield, take_data, kernel_take, answer_routed, tended_by, after_packet, tend_arrived, arrived_context, tend_away, tend_front, tend_seat, tend_by, kernel_tend, placed_at, is_moving_at, switched, switch_seat, switch}
+use Rattle.m3_kernel.specs.Parts.{Site, tile_of, has_program, Parcel, Data, Restore, Away, Seating, Is_placed, Is_leaving, Is_resting, Is_coming, Seat, Kernel, says, dropped, closed_out}
+use Rattle.m3_kernel.specs.Kernel.{seat_of, seated, with_seat, is_placed_seat, is_leaving_seat, join_ready, with_yielded, Routed, hold, route_to, seat_for, route, first_due, is_due_seat, is_leaving_at, restored_by, restored, then_restore, take_routed, rests, take_saved, done_grant, is_under_close, take_closed, take_yield, take_data, kernel_take, answer_routed, tended_by, after_packet, tend_arrived, arrived_context, tend_away, tend_front, tend_seat, tend_by, kernel_tend, placed_at, is_moving_at, switched, switch_seat, switch}
 use Rattle.m3_kernel.specs.Came.{answers_to}
 use Rattle.m3_kernel.specs.Seats.{first}
 use Rattle.m3_kernel.specs.Readers.{tile_or, answer_aim, tend_aim}

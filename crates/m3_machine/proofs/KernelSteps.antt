@@ -1,15 +1,14 @@
 -- The machine's step at an event of the kernel, from that of the kernel, and that there is room for what it sends.
-use Rattle.std.proofs.Common.{◌≡◌, ℕ, ◌+◌, ◌-◌, ◌<◌, ◌≤◌, ◌*◌, List, [], ◌∷◌, ◌++◌, length, map, drop, get_or, set, Option, Some, None, refl, sym, ap, ◌∙◌, subst, arith, ⊎_elim}
-use Rattle.std.proofs.lemmas.List.{get_or-set_same, get_or-set_other, set_past, get_or_past, set-set, set-get_or, map-set}
+use Rattle.std.proofs.Common.{◌≡◌, ℕ, ◌+◌, ◌-◌, ◌<◌, ◌≤◌, ◌*◌, List, [], ◌∷◌, ◌++◌, length, drop, get_or, set, Option, Some, None, refl, sym, ap, ◌∙◌, subst, arith, ⊎_elim}
+use Rattle.std.proofs.lemmas.List.{get_or-set_same, get_or-set_other, set_past, get_or_past, set-set, set-get_or}
 use Rattle.std.proofs.lemmas.Bool.{cases_eq, cases_lt}
-use Rattle.m3_merge.specs.Parts.{Each}
 use Rattle.m3_base.specs.declared.event.Event.{Event}
 use Rattle.m3_base.specs.declared.event.Entry.{Entry}
 use Rattle.m3_base.specs.Setup.{SetupValue}
 use Rattle.m3_core.specs.declared.parcel.Emit.{Emit}
 use Rattle.m3_core.specs.declared.parcel.Parcel.{Parcel as CodeParcel}
 use Rattle.m3_link.specs.Links.{place, list_at, popped, first, put_back, spare_at, filled, freed}
-use Rattle.m3_kernel.specs.Parts.{Site, Kernel, Parcel, Tile, Deed}
+use Rattle.m3_kernel.specs.Parts.{Kernel, Parcel, Tile, Deed}
 use Rattle.m3_kernel.specs.Kernel.{kernel_take}
 use Rattle.m3_kernel.specs.Parcels.{parcel_of, parcels_of, out_of}
 use Rattle.m3_kernel.specs.declared.done.Done.{Done}

@@ -1,20 +1,17 @@
 -- What the driver does next in a machine whose activities have no program.
-use Rattle.std.proofs.Common.{◌≡◌, ℕ, ◌+◌, ◌∙◌, Bool, true, false, List, [], ◌∷◌, ◌++◌, length, map, get_or, Option, Some, None, refl, sym, ap}
-use Rattle.std.specs.Prelude.{not, ◌&&◌, ◌||◌, ◌==◌, if◌then◌else◌}
+use Rattle.std.proofs.Common.{◌≡◌, ℕ, ◌+◌, ◌∙◌, Bool, true, false, List, [], ◌∷◌, map, get_or, Option, Some, None, refl, sym, ap}
+use Rattle.std.specs.Prelude.{not, ◌&&◌, if◌then◌else◌}
 use Rattle.m3_base.specs.declared.event.Event.{Event}
-use Rattle.m3_base.specs.declared.ids.FlightId.{FlightId}
-use Rattle.m3_base.specs.Flight.{name_of}
-use Rattle.m3_base.specs.State.{State, Standing, Live, Closing, Closed, Done, Grant, context_of, same_act}
+use Rattle.m3_base.specs.State.{State, Standing, Live, Closing, Closed, Done, Grant, context_of}
 use Rattle.m3_base.specs.Grants.{is_closing_grant, is_open_child}
-use Rattle.m3_base.specs.Places.{Actor, actor, current_of, least_closing, is_moving_at, is_waiting_turn, busy_any, ready_at, is_placed, is_leaving}
+use Rattle.m3_base.specs.Places.{Actor, actor, current_of, least_closing, is_moving_at, is_waiting_turn, busy_any, ready_at}
 use Rattle.std.specs.List.{list_any}
 use Rattle.m3_base.specs.Driver as driver
 use Rattle.m3_base.specs.Driver.{tiles, first_for, first_some, tend_of, close_of, turn_by, actor_at, wanted_at, switch_to}
 use Rattle.m3_base.specs.Keyed.{find}
 use Rattle.m3_base.specs.Places.{actor_act, same_actor}
 use Rattle.m3_merge.specs.Parts.{Each}
-use Rattle.m3_kernel.specs.Parts.{Home, Site, Seat}
-use Rattle.m3_kernel.specs.Kernel.{seat_act}
+use Rattle.m3_kernel.specs.Parts.{Home, Site}
 use Rattle.m3_machine.specs.Machine.{Machine}
 use Rattle.m3_machine.specs.At.{at, places_of, actor_in}
 use Rattle.m3_machine.specs.Next.{next_take, next_event, least_tend}

@@ -1,12 +1,11 @@
 -- Without programs no activity is ever ready, and without orders on grants each of them stands as it was made.
-use Rattle.std.proofs.Common.{◌≡◌, ℕ, zero, suc, Bool, true, false, cond, List, [], ◌∷◌, ◌++◌, Option, Some, None, refl, sym, ap, ◌∙◌, subst, arith, set, get_or, filter, replicate}
+use Rattle.std.proofs.Common.{◌≡◌, ℕ, zero, suc, Bool, true, false, List, [], ◌∷◌, ◌++◌, Option, Some, None, refl, ap, subst, arith, set, get_or, filter}
 use Rattle.std.specs.Prelude.{◌==◌, ◌&&◌, ◌||◌, not, slice_get, if◌then◌else◌}
 use Rattle.std.specs.List.{list_any}
 use Rattle.std.proofs.lemmas.Bool.Decides.{nat_tests}
 use Rattle.m3_base.specs.declared.event.Event.{Event}
 use Rattle.m3_base.specs.declared.event.Said.{Said}
 use Rattle.m3_base.specs.declared.event.No.{No}
-use Rattle.m3_base.specs.declared.event.Made.{Made}
 use Rattle.m3_base.specs.declared.order.Order.{Order}
 use Rattle.m3_base.specs.declared.packet.Packet.{Packet}
 use Rattle.m3_base.specs.Context.{Context}
@@ -16,7 +15,7 @@ use Rattle.m3_base.specs.Fits.{arrive_fit}
 use Rattle.m3_base.specs.Keyed as keyed
 use Rattle.m3_base.specs.Places.{target}
 use Rattle.m3_merge.specs.Parts.{Each}
-use Rattle.m3_kernel.specs.Parts.{Home, Site, tile_of, home_act, home_of, programmed, has_program, Parcel, Data, Save, Saved, Restore, Yield, Closed, Away, Seating, Is_placed, Is_leaving, Is_resting, Is_coming, Seat, Kernel, Deed, says, dropped, closed_out}
+use Rattle.m3_kernel.specs.Parts.{Home, Site, tile_of, home_act, programmed, has_program, Parcel, Data, Save, Saved, Restore, Yield, Closed, Away, Seating, Is_placed, Is_leaving, Is_resting, Is_coming, Seat, Kernel, Deed, says, dropped, closed_out}
 use Rattle.m3_kernel.specs.Naming.{is_named}
 use Rattle.m3_kernel.specs.Kernel as kernel
 use Rattle.m3_kernel.specs.Kernel.{Routed, ready_at, kernel_take, kernel_tend, kernel_order, is_under_close}

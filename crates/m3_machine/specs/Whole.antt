@@ -11,7 +11,7 @@ use Rattle.m3_kernel.specs.Naming.{is_home}
 use Rattle.m3_core.specs.declared.parcel.Parcel.{Parcel as CodeParcel}
 use Rattle.m3_kernel.specs.Parcels.{parcels_of}
 use Rattle.m3_machine.specs.Low.{IsLow, LowComes}
-use Rattle.m3_machine.specs.Machine.{Machine, link_at, mstep, opened_machine}
+use Rattle.m3_machine.specs.Machine.{Machine, mstep, opened_machine}
 use Rattle.m3_kernel.specs.Sites.{site_of}
 
 pub record Whole : Type 0 where

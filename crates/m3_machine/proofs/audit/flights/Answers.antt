@@ -1,7 +1,7 @@
-use Rattle.std.proofs.Common.{◌≡◌, ◌+◌, ◌++◌, ◌∙◌, ap, drop, length, length-append, min, arith}
+use Rattle.std.proofs.Common.{◌≡◌, ◌+◌, ◌∙◌, ap, drop, length, length-append, arith}
 use Rattle.m3_kernel.specs.Seats.{seat_value, seats_of}
 use Rattle.m3_machine.specs.At.{each, held_by}
-use Rattle.m3_machine.proofs.Entering.{seats_more, seats_past}
+use Rattle.m3_machine.proofs.Entering.{seats_more}
 use Rattle.m3_machine.proofs.audit.flights.Goals as goal
 
 pub loop-seat-preserved : goal.loop-seat-preserved

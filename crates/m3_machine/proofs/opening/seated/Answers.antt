@@ -1,4 +1,4 @@
-use Rattle.std.proofs.Common.{◌≡◌, ◌<◌, ◌+◌, ℕ, List, ◌∷◌, None, length, get_or, set, drop, sym, ap, subst, refl, ◌∙◌, arith}
+use Rattle.std.proofs.Common.{◌≡◌, ◌<◌, ◌+◌, ℕ, ◌∷◌, None, length, get_or, set, drop, sym, ap, subst, refl, ◌∙◌, arith}
 use Rattle.std.specs.Prelude.{Option}
 use Rattle.std.proofs.lemmas.List.{length-map}
 use Rattle.m3_base.specs.Context.{Context}
@@ -6,11 +6,10 @@ use Rattle.m3_kernel.specs.Parts.{Site, Tile}
 use Rattle.m3_kernel.specs.Homes.{value_of}
 use Rattle.m3_kernel.specs.Kernel.{seat_of}
 use Rattle.m3_kernel.specs.Readers.{with_new_seat, HasPlaceFor}
-use Rattle.m3_kernel.specs.States.{KernelAt}
 use Rattle.m3_machine.specs.Machine.{empty_tile}
 use Rattle.m3_machine.specs.TileView.{seated_with}
 use Rattle.m3_machine.specs.Seated.{rests_with}
-use Rattle.m3_machine.proofs.Opened.{Seats, home_list, next_home, tile_there, context_there, is_fresh, has_place, seats_more, seats_begin, seats_end}
+use Rattle.m3_machine.proofs.Opened.{Seats, home_list, next_home, tile_there, context_there, is_fresh, has_place, seats_more, seats_begin}
 use Rattle.m3_machine.proofs.opening.seated.Goals as goal
 
 pub loop-at-init : goal.loop-at-init

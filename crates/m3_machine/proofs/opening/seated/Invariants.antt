@@ -1,5 +1,4 @@
-use Rattle.std.proofs.Common.{◌≡◌, map, drop}
-use Rattle.m3_kernel.specs.Homes.{value_of}
+use Rattle.std.proofs.Common.{drop}
 use Rattle.m3_machine.proofs.Opened.{Seats, home_list}
 use Rattle.m3_machine.proofs.opening.seated.Given as goal
 

@@ -1,4 +1,4 @@
-use Rattle.std.proofs.Common.{◌≡◌, ◌<◌, ◌≤◌, ◌+◌, List, ◌∷◌, [], ◌++◌, Some, ap, refl, sym, ◌∙◌, subst, arith, length, length-set}
+use Rattle.std.proofs.Common.{◌≡◌, ◌<◌, ◌+◌, List, ◌∷◌, [], ◌++◌, Some, ap, refl, sym, ◌∙◌, subst, arith, length, length-set}
 use Rattle.std.proofs.lemmas.List.{get_or_default}
 use Rattle.m3_base.specs.declared.event.Event.{Event}
 use Rattle.m3_base.specs.declared.event.Entry.{Entry}

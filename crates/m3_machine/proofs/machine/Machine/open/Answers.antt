@@ -1,7 +1,6 @@
-use Rattle.std.proofs.Common.{◌≡◌, ◌≤◌, ◌∙◌, List, [], length, ap, sym, replicate, subst, arith}
+use Rattle.std.proofs.Common.{◌≡◌, ◌≤◌, ◌∙◌, List, length, ap, sym, replicate, subst, arith}
 use Rattle.m3_base.specs.declared.event.Entry.{Entry}
 use Rattle.m3_machine.specs.Low.{IsLow}
-use Rattle.m3_machine.specs.Seated.{IsOpened}
 use Rattle.m3_machine.specs.Whole.{machine_of, opened}
 use Rattle.m3_machine.proofs.Opened.{machine_opened}
 use Rattle.m3_machine.proofs.OpenedLow.{opened_low}

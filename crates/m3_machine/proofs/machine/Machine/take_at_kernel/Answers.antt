@@ -1,5 +1,5 @@
 use Rattle.std.proofs.Common.{◌≡◌, ◌<◌, ◌≤◌, ◌+◌, List, ℕ, ◌∷◌, [], ◌++◌, Some, ap, refl, sym, ◌∙◌, subst, arith, length}
-use Rattle.std.specs.Prelude.{Option, is_some}
+use Rattle.std.specs.Prelude.{Option}
 use Rattle.m3_base.specs.declared.event.Event.{Event}
 use Rattle.m3_base.specs.declared.event.Entry.{Entry}
 use Rattle.m3_core.specs.declared.parcel.Parcel.{Parcel as CodeParcel}

@@ -1,9 +1,9 @@
-use Rattle.std.proofs.Common.{◌≡◌, ◌<◌, ◌≤◌, ◌+◌, List, ℕ, ◌∷◌, [], ◌++◌, Some, ap, refl, sym, ◌∙◌, subst, arith, length, length-set}
+use Rattle.std.proofs.Common.{◌≡◌, ◌<◌, ◌+◌, List, ℕ, ◌∷◌, [], ◌++◌, Some, ap, refl, sym, ◌∙◌, subst, arith, length}
 use Rattle.std.specs.Prelude.{Option}
 use Rattle.m3_base.specs.declared.event.Event.{Event}
 use Rattle.m3_base.specs.declared.event.Entry.{Entry}
 use Rattle.m3_core.specs.declared.parcel.Parcel.{Parcel as CodeParcel}
-use Rattle.m3_link.specs.Links.{place, list_at, first, popped, spare_at, freed}
+use Rattle.m3_link.specs.Links.{place, list_at, first, popped}
 use Rattle.m3_kernel.specs.Parts.{Site}
 use Rattle.m3_kernel.specs.Parcels.{parcels_of, out_of}
 use Rattle.m3_machine.specs.Whole.{Whole, entry, machine_of, out_links, Steps}

@@ -1,12 +1,12 @@
-use Rattle.std.proofs.Common.{◌≡◌, ◌<◌, ◌≤◌, ◌+◌, List, ℕ, ◌∷◌, [], ◌++◌, Some, ap, refl, sym, ◌∙◌, subst, arith, length, length-set}
+use Rattle.std.proofs.Common.{◌≡◌, ◌<◌, ◌+◌, List, ℕ, ◌∷◌, [], ◌++◌, Some, ap, refl, sym, ◌∙◌, subst, arith, length, length-set}
 use Rattle.std.specs.Prelude.{Option}
 use Rattle.m3_base.specs.declared.event.Event.{Event}
 use Rattle.m3_base.specs.declared.event.Entry.{Entry}
 use Rattle.m3_core.specs.declared.parcel.Parcel.{Parcel as CodeParcel}
-use Rattle.m3_link.specs.Links.{place, list_at, first, popped, spare_at, freed}
+use Rattle.m3_link.specs.Links.{place, list_at, first, popped}
 use Rattle.m3_kernel.specs.Parts.{Site}
 use Rattle.m3_kernel.specs.Parcels.{parcels_of, out_of}
-use Rattle.m3_machine.specs.Whole.{Whole, entry, machine_of, out_links, Steps}
+use Rattle.m3_machine.specs.Whole.{Whole, entry, machine_of, out_links}
 use Rattle.m3_machine.specs.Sends.{RoomToTake}
 use Rattle.m3_machine.proofs.Commanding.{one_more}
 use Rattle.m3_machine.proofs.Backs.{tile_room, room_freed}

@@ -1,19 +1,15 @@
-use Rattle.std.proofs.Common.{◌≡◌, ◌<◌, ◌≤◌, ◌+◌, List, ℕ, ◌∷◌, [], ◌++◌, Some, None, ap, refl, sym, ◌∙◌, subst, arith, length}
-use Rattle.std.specs.Prelude.{Option}
+use Rattle.std.proofs.Common.{◌≡◌, ◌<◌, ◌≤◌, ◌+◌, List, ℕ, ◌∷◌, [], ◌++◌, ap, refl, sym, ◌∙◌, subst, arith, length}
 use Rattle.m3_base.specs.declared.event.Event.{Event}
 use Rattle.m3_base.specs.declared.event.Entry.{Entry}
-use Rattle.m3_base.specs.declared.order.Order.{Order}
-use Rattle.m3_core.specs.declared.parcel.Parcel.{Parcel as CodeParcel}
-use Rattle.m3_link.specs.Links.{place, list_at, first, popped, spare_at}
+use Rattle.m3_link.specs.Links.{place, spare_at}
 use Rattle.m3_kernel.specs.Parts.{Site, tile_of}
-use Rattle.m3_kernel.specs.Parcels.{parcel_of, parcels_of, out_of}
-use Rattle.m3_kernel.specs.Kernel.{seat_of, kernel_take, kernel_tend, switch}
+use Rattle.m3_kernel.specs.Parcels.{parcels_of, out_of}
+use Rattle.m3_kernel.specs.Kernel.{kernel_tend}
 use Rattle.m3_kernel.specs.Doing.{Does}
-use Rattle.m3_machine.specs.Machine.{mstep}
-use Rattle.m3_machine.specs.Sends.{HasTwoFor, kernel_aim}
-use Rattle.m3_machine.specs.Whole.{Whole, site, entry, machine_of, out_links, Steps}
+use Rattle.m3_machine.specs.Sends.{HasTwoFor}
+use Rattle.m3_machine.specs.Whole.{Whole, site, entry, machine_of, out_links}
 use Rattle.m3_machine.proofs.Commanding.{one_more}
-use Rattle.m3_machine.proofs.KernelAims.{GoTo, kernel_tend_goes}
+use Rattle.m3_machine.proofs.KernelAims.{kernel_tend_goes}
 use Rattle.m3_machine.proofs.KernelSteps.{first_room, second_room, kernel_did}
 use Rattle.m3_machine.proofs.StepLow.{low_comes, kept_low}
 use Rattle.m3_machine.proofs.machine.Machine.tend.Goals as goal

@@ -1,4 +1,4 @@
-use Rattle.std.proofs.Common.{◌≡◌, ◌∷◌, [], Option, Some, List, refl, sym, subst, ap, ◌∙◌}
+use Rattle.std.proofs.Common.{◌≡◌, ◌∷◌, [], List, refl, sym, subst, ap, ◌∙◌}
 use Rattle.std.specs.Option.{option_copied}
 use Rattle.m3_base.specs.Context.{Context}
 use Rattle.m3_kernel.specs.Parts.{Seating, Is_placed, Is_leaving, Is_resting, Is_coming}
