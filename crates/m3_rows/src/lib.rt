@@ -13,5 +13,3 @@ mod runs;
 mod sends;
 #[cfg(test)]
 mod showing;
-#[cfg(test)]
-mod switching;
