@@ -16,6 +16,7 @@ import time
 import answers
 import messages
 import packets
+import switches
 
 TOP = os.path.dirname(os.path.dirname(os.path.abspath(__file__)))
 KIB = 1024
@@ -24,6 +25,7 @@ RUNS = 5
 MAKERS = (
     ("run", "messages", messages.make),
     ("run", "answers", answers.make),
+    ("run", "switches", switches.make),
     ("show", "packets", packets.make),
 )
 

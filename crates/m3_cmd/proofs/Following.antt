@@ -1,5 +1,5 @@
 -- A machine's journal follows the events that it makes.
-use Rattle.std.proofs.Common.{◌≡◌, ℕ, ◌<◌, ◌≤◌, Bool, true, false, List, [], get_or, ◌∷◌, ◌++◌, length, append_assoc, append-nil, Some, None, refl, sym, ap, ◌∙◌, subst, arith}
+use Rattle.std.proofs.Common.{◌≡◌, ℕ, ◌<◌, ◌≤◌, Bool, true, false, List, [], get_or, ◌∷◌, ◌++◌, length, append_assoc, append-nil, Option, Some, None, refl, sym, ap, ◌∙◌, subst, arith}
 use Rattle.std.specs.Prelude.{not, ◌&&◌, ◌||◌, nat_lt}
 use Rattle.std.proofs.lemmas.Bool.Decides.{nat_tests}
 use Rattle.std.proofs.lemmas.List.{map-append}
@@ -15,8 +15,9 @@ use Rattle.m3_base.specs.Entries.{IsRun, after}
 use Rattle.m3_base.specs.Opening.{opening}
 use Rattle.m3_base.specs.Setup.{SetupValue, IsValid, is_machine}
 use Rattle.m3_base.proofs.Replies.{seen_given}
+use Rattle.m3_base.specs.Causes.{ReadsAll}
 use Rattle.m3_machine.specs.At.{at, places_of}
-use Rattle.m3_machine.specs.Closing.{NobodyAway, IsCounted, ideal_lines}
+use Rattle.m3_machine.specs.Closing.{IsCounted, ideal_lines}
 use Rattle.m3_machine.specs.Kept.{IsKept, PlacesRun, Ran}
 use Rattle.m3_machine.specs.Whole.{Whole, Steps, entry, site, opened, opened_whole, IsServed}
 use Rattle.m3_machine.specs.Machine.{mstep}
@@ -28,7 +29,7 @@ use Rattle.m3_machine.proofs.Runs.{none_ran, more_ran}
 use Rattle.m3_machine.proofs.Valid.{opens_as}
 use Rattle.m3_script.specs.Rules.{AllNamed, misses, is_absent, has_program}
 use Rattle.m3_journal.specs.Texts.{journal_text}
-use Rattle.m3_cmd.specs.Statuses.{IsOfSetup, AreOfSetup, Follows, IsTextAt, IsTextOf, event_of}
+use Rattle.m3_cmd.specs.Statuses.{IsOfSetup, AreOfSetup, Follows, IsTextAt, IsTextOf, OfBytes, event_of}
 
 pub none_made : (m : Whole) → IsKept (site m.setup) m.machine → Follows m [] m
 none_made m kept = record { same = refl; made = []; added = sym (append-nil m.entries); follows = refl; ran = none_ran (site m.setup) m.machine kept }
@@ -88,12 +89,12 @@ named_of s v es named k d within = named_one s v (get_or es k d) (named k d with
 
 -- the lines that close the journal of a machine that was opened and made these entries
 audit_from : (s : SetupValue) (v : IsValid s) (made : List Entry) (last : Whole) (audit : List AuditLine) → Ran (site s) (opened s) made last.machine → last.setup ≡ s → last.entries ≡ made → length last.entries ≤ 2097152
-    → (IsCounted last → audit ≡ ideal_lines last) → NobodyAway (opened s) → audit ≡ audit_lines s.tiles (after (opening s.memory s.lines) made) (places_of (site s) last.machine) []
-audit_from s v made last audit ran same entries few is nobody =
+    → (IsCounted last → audit ≡ ideal_lines last) → audit ≡ audit_lines s.tiles (after (opening s.memory s.lines) made) (places_of (site s) last.machine) []
+audit_from s v made last audit ran same entries few is =
     let reach : after (opening s.memory s.lines) made ≡ at last.machine = ap (λ (x : State). after x made) (sym (opens_as s v).0) ∙ ran.reaches in
     let made_few : length made ≤ 2097152 = subst (λ (es : List Entry). length es ≤ 2097152) entries few in
     let flights : length (at last.machine).flights ≤ 4294967295 = subst (λ (x : State). length x.flights ≤ 4294967295) reach (journal_few s.memory s.lines made made_few) in
-    is (record { kept = subst (λ (x : SetupValue). IsKept (site x) last.machine) (sym same) ran.kept; nobody = subst (λ (x : SetupValue). NobodyAway (opened x)) (sym same) nobody; flights_few = flights })
+    is (record { kept = subst (λ (x : SetupValue). IsKept (site x) last.machine) (sym same) ran.kept; flights_few = flights })
     ∙ (λ k. audit_lines (same k).tiles (sym reach k) (places_of (site (same k)) last.machine) [])
 
 pub text_is : (s : SetupValue) (es : List Event) (text : List ℕ) (first last : Whole) → IsValid s → first ≡ opened_whole s → Follows first es last → IsTextAt last text → IsTextOf s es text
@@ -113,3 +114,10 @@ text_is s es text first last v is f t =
       audit_is = audit_from s v g.made last t.audit g.ran g.same g.added t.few t.audit_is;
       is_text = t.is_text ∙ ap (λ (x : SetupValue). journal_text x last.entries t.audit) g.same ∙ ap (λ (xs : List Entry). journal_text s xs t.audit) g.added;
     }
+
+-- ---- the bytes of a source
+
+-- what holds of all the bytes that were read holds of those that the source tells
+pub told_all : (P : List ℕ → Type 0) (left new : Option (List ℕ)) (read bytes : List ℕ) → ReadsAll left new read → bytes ≡ read → P bytes → OfBytes left P
+told_all P None new read bytes all same p = tt
+told_all P (Some told) new read bytes all same p = subst P (same ∙ all.1) p

@@ -1,15 +1,14 @@
 -- Packets shown one after the other.
-use Rattle.std.proofs.Common.{◌≡◌, ◌⊎◌, ℕ, zero, suc, ◌+◌, ◌-◌, ◌<◌, ◌≤◌, List, [], ◌∷◌, ◌++◌, length, take, drop, map, Option, Result, Ok, Err, refl, sym, ap, subst, ◌∙◌, arith, append_assoc, length-append, length-drop, inl, inr}
-use Rattle.std.proofs.lemmas.List.{take_all, take-append-drop, append-nil, map-append, drop_at, take_at}
-use Rattle.std.proofs.lemmas.Grind.{flat_map-append}
+use Rattle.std.proofs.Common.{◌≡◌, ℕ, zero, suc, ◌+◌, ◌-◌, ◌<◌, ◌≤◌, List, [], ◌∷◌, ◌++◌, length, take, drop, map, Option, Err, refl, sym, ap, subst, ◌∙◌, arith, append_assoc, length-append, length-drop, inr}
+use Rattle.std.proofs.lemmas.List.{take_all, take-append-drop, append-nil, drop_at}
 use Rattle.m3_base.specs.declared.packet.Packet.{Packet}
 use Rattle.m3_text.specs.Printing.{text_of_lines}
-use Rattle.m3_wire.specs.Grammar.{IsFirst, IsCut, IsBadAt, Refuses, IsRead, TakesNone}
+use Rattle.m3_wire.specs.Grammar.{IsFirst, Refuses, IsRead, TakesNone}
 use Rattle.m3_wire.specs.Packets.{IsPacket, packet_part}
 use Rattle.m3_wire.specs.declared.refusal.WireRefusal.{WireRefusal}
 use Rattle.m3_cmd.specs.declared.show.ShowRefusal.{ShowRefusal}
 use Rattle.m3_cmd.specs.Statuses.{WritesSome}
-use Rattle.m3_cmd.specs.Show.{AreSpelled, AreNoPackets, IsRefusalLine, IsShowAnswer, IsShown, IsRefusedAfter, IsNext, IsNone, IsWhy, packet_line, place_of, refused_after}
+use Rattle.m3_cmd.specs.Show.{AreSpelled, AreNoPackets, IsRefusalLine, IsShowAnswer, IsShown, IsRefusedAfter, IsNext, IsWhy, packet_line, place_of, refused_after}
 
 abbrev pub lines : List Packet → List ℕ
 lines ps = text_of_lines (map packet_line ps)

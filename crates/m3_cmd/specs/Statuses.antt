@@ -11,8 +11,8 @@ use Rattle.m3_base.specs.Opening.{opening}
 use Rattle.m3_base.specs.Places.{Places, opening_places}
 use Rattle.m3_base.specs.Seen.{seen, given, steps_in}
 use Rattle.m3_base.specs.Causes.{Appends, AppendsSome, GivesMore}
-use Rattle.m3_machine.specs.Closing.{NobodyAway, IsCounted, ideal_lines}
-use Rattle.m3_machine.specs.Whole.{Whole, site, opened, IsOfSetup as HasAct}
+use Rattle.m3_machine.specs.Closing.{IsCounted, ideal_lines}
+use Rattle.m3_machine.specs.Whole.{Whole, site, IsOfSetup as HasAct}
 use Rattle.m3_machine.specs.Kept.{IsWithin, PlacesRun, Ran}
 use Rattle.m3_script.specs.declared.script.Mode.{Mode}
 use Rattle.m3_script.specs.Scripts.{Refused, ScriptValue, script_of}
@@ -74,7 +74,7 @@ pub record IsTextOf (setup : SetupValue) (events : List Event) (text : List ℕ)
   pub run : IsRun (opening setup.memory setup.lines) entries
   pub places : PlacesRun (opening setup.memory setup.lines) (opening_places [] setup.lines) entries last
   pub replies : (a : ℕ) → seen a (opening setup.memory setup.lines) entries ≡ given a (opening setup.memory setup.lines) (steps_in entries)
-  pub audit_is : NobodyAway (opened setup) → audit ≡ audit_lines setup.tiles (after (opening setup.memory setup.lines) entries) last []
+  pub audit_is : audit ≡ audit_lines setup.tiles (after (opening setup.memory setup.lines) entries) last []
   pub is_text : text ≡ journal_text setup entries audit
 
 -- the reader refuses the bytes

@@ -10,3 +10,4 @@ context_of c = record { act = c.act; endpoints = c.slots.items; flying = c.flyin
 pub record IsKept (c : Inside) : Type 0 where
   pub slots : length c.slots.items ≡ 16
   pub room : window ≤ vec_capacity c.flying
+  pub few : length c.flying.items ≤ window

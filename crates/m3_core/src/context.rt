@@ -87,9 +87,10 @@ impl Context {
         self.next
     }
 
-    /// Its commands that fly, in the order of their numbers.
+    /// Its commands that fly, in the order of their numbers: at most one.
     pub fn flying(&self) -> &[Flying]
-        ensures { result.now ≡ self.now.flying }
+        ensures same { result.now ≡ self.now.flying }
+        ensures few { length self.now.flying ≤ window }
     {
         self.flying.as_slice()
     }

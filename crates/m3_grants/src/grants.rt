@@ -1,6 +1,6 @@
 //! The tree of grants.
 
-ghost use Rattle.std.specs.Prelude.{◌≡◌, true, ◌+◌, ◌*◌, ◌<◌, ◌≤◌, ◌||◌, nat_le, [], length, IfOk, OnOk, OnErr, None, Some, is_some};
+ghost use Rattle.std.specs.Prelude.{◌≡◌, true, ◌+◌, ◌*◌, ◌<◌, ◌≤◌, ◌&&◌, ◌||◌, nat_le, [], length, IfOk, OnOk, OnErr, None, Some, is_some};
 ghost use Rattle.std.specs.List.{list_any};
 ghost use Rattle.m3_base.specs.Grants.{make_refusal, revoke_refusal, revoked, holds_at};
 ghost use Rattle.m3_base.specs.Places.{least_closing};
@@ -178,6 +178,14 @@ impl Grants {
         Ok(grant)
     }
 
+    /// How many grants were made.
+    pub fn count(&self) -> u16
+        ensures count { result ≡ length self.now.grants }
+        ensures range { result ≤ 4096 }
+    {
+        self.nodes.len() as u16
+    }
+
     /// Makes a live grant of this line. Its number is the next one. The refusals come exactly where they stand, and the
     /// first of them where there are several: the order of the variants of `GrantRefusal`. `NoMemory` comes only where
     /// no other does. After a refusal nothing has changed.
@@ -280,6 +288,16 @@ impl Grants {
         ensures { self.new ≡ record self.old { grants = with_sent self.old.grants g } }
     {
         mark_sent(&mut self.nodes, g);
+    }
+
+    /// Whether the grant's Close was sent and it isn't done: the condition of `closed`.
+    pub fn awaits_closed(&self, g: GrantId) -> bool
+        ensures { result ≡ (is_sent_in (grant_in self.now.grants g) && is_undone_in (grant_in self.now.grants g)) }
+    {
+        match self.open(g) {
+            Some(node) => node.close_sent,
+            None => false,
+        }
     }
 
     /// The grant is done, and its endpoint has no grant. The condition is that its Close was sent and it isn't done.

@@ -1,1 +1,16 @@
 pub mod Homes
+pub mod Only
+pub mod Places
+pub mod Hearing
+pub mod Tables
+pub mod Reseating
+pub mod Kernels
+pub mod Deeds
+pub mod Switching
+pub mod Changing
+pub mod Restoring
+pub mod Taking
+pub mod Answering
+pub mod Tending
+pub mod Applying
+pub mod Opening

@@ -4,3 +4,11 @@ pub mod Sites
 pub mod Homes
 pub mod Parcels
 pub mod Kernel
+pub mod Came
+pub mod Settled
+pub mod Seats
+pub mod Berths
+pub mod States
+pub mod Doing
+pub mod Readers
+pub mod KernelView

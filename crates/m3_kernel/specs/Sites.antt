@@ -2,7 +2,7 @@
 use Rattle.std.specs.Prelude.{ℕ, List, [], ◌∷◌, ◌++◌, ◌==◌}
 use Rattle.std.specs.List.{list_any}
 use Rattle.m3_base.specs.declared.setup_line.SetupLine.{SetupLine}
-use Rattle.m3_kernel.specs.Parts.{Home, Site}
+use Rattle.m3_kernel.specs.Parts.{Site}
 
 -- programs: the activities that have one
 abbrev pub with_home : List ℕ → Site → SetupLine → Site

@@ -1,4 +1,13 @@
 //! The kernel's part: which activity is at its tile, what waits for those that are away, and where packets go.
 #![tactic(auto)]
 
+pub mod away;
+pub mod berth;
+pub mod came;
+pub mod done;
+pub mod kernel;
+pub mod seat;
 pub mod site;
+mod state;
+#[cfg(test)]
+mod tests;

@@ -1,13 +1,13 @@
 -- One link of many that changes: what it holds, and its spare places.
-use Rattle.std.proofs.Common.{◌≡◌, ℕ, ◌+◌, ◌-◌, ◌<◌, ◌≤◌, List, [], ◌∷◌, ◌++◌, length, drop, map, set, get_or, Option, None, Some, Result, Ok, Err, OnOk, refl, sym, ap, ◌∙◌, subst, ⊎_elim, arith}
-use Rattle.std.specs.Prelude.{MatchOption}
+use Rattle.std.proofs.Common.{◌≡◌, ℕ, ◌+◌, ◌-◌, ◌<◌, ◌≤◌, List, [], length, map, set, get_or, Option, None, Some, Result, Ok, Err, OnOk, sym, ap, ◌∙◌, ⊎_elim, arith}
+use Rattle.std.specs.Prelude.{MatchOption, IsSome}
 use Rattle.std.proofs.lemmas.List.{map-set, get_or-map, set-get_or, get_or-set_same, get_or-set_other, length-map}
 use Rattle.std.proofs.lemmas.Bool.{cases_eq}
 use Rattle.std.specs.VecDeque.{deque_len, deque_capacity}
 use Rattle.std.specs.declared.collections.VecDeque.{VecDeque}
 use Rattle.std.specs.declared.alloc.Global.{Global}
 use Rattle.m3_core.specs.declared.parcel.Parcel.{Parcel}
-use Rattle.m3_link.specs.Links.{list_at, popped, spare_at, filled, freed}
+use Rattle.m3_link.specs.Links.{list_at, spare_at, filled, freed}
 use Rattle.m3_link.specs.Wires.{Wires, lists_in, spare_in, wires_of}
 
 module _ (links : List (VecDeque Parcel Global)) (k : ℕ) (r : VecDeque Parcel Global) (within : k < length links) (read : r ≡ get_or links k r)
@@ -55,3 +55,7 @@ module _ (links : List (VecDeque Parcel Global)) (k : ℕ) (r : VecDeque Parcel 
       ap (λ ns. spare_at ns n) (map-set spare_in links k s ∙ (λ i. set (view i).spare (here i) (spare_in s))) ∙ get_or-set_other w.spare j n (spare_in s) 0 ne in
       omega arith)
       (cases_eq n j)
+
+  pub spare_left : (s : VecDeque Parcel Global) (o : Option Parcel) → MatchOption o ((deque_len r ≡ 0) × (deque_len s ≡ 0)) (λ _. deque_len s + 1 ≡ deque_len r) → deque_capacity s ≡ deque_capacity r → IsSome o → 0 < spare_at (map spare_in (set links k s)) j
+  spare_left s None len cap some = absurd (cc)
+  spare_left s (Some p) len cap some = let e = there s in let small = r.small in omega (arith, len, cap, e)

@@ -1,5 +1,5 @@
 -- What the links hold, and how many more parcels each has a place for.
-use Rattle.std.specs.Prelude.{ℕ, ◌+◌, ◌-◌, ◌*◌, Bool, true, false, List, [], ◌∷◌, ◌++◌, Option, Some, None, map, drop, slice_set, slice_index_or}
+use Rattle.std.specs.Prelude.{ℕ, ◌+◌, ◌-◌, ◌*◌, Bool, true, false, List, [], ◌∷◌, ◌++◌, Option, Some, None, drop, slice_set, slice_index_or}
 use Rattle.m3_core.specs.declared.parcel.Parcel.{Parcel}
 
 -- the link from one tile to another, among all

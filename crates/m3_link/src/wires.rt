@@ -1,6 +1,6 @@
 //! The links: for each ordered pair of tiles the parcels on their way, first in, first out.
 
-ghost use Rattle.std.specs.Prelude.{◌≡◌, ℕ, ◌+◌, ◌*◌, ◌<◌, ◌≤◌, min, length, replicate, [], OnOk, IfOk, option_copied};
+ghost use Rattle.std.specs.Prelude.{◌≡◌, ℕ, ◌+◌, ◌*◌, ◌<◌, ◌≤◌, min, length, replicate, [], OnOk, IfOk, IsSome, option_copied};
 ghost use Rattle.m3_link.specs.Links.{place, list_at, pushed, popped, first, put_back, parcel_at, is_nil, spare_at, filled, freed, data_in, data_on};
 ghost use Rattle.m3_link.specs.Wires.{lists_in};
 
@@ -107,6 +107,7 @@ impl Wires {
         ensures answer { result ≡ first (list_at self.old.lists (place from to)) }
         ensures lists { self.new.lists ≡ popped self.old.lists (place from to) }
         ensures spare { self.new.spare ≡ freed self.old.spare (place from to) result }
+        ensures left { IsSome result → 0 < spare_at self.new.spare (place from to) }
     {
         let at = place(from, to);
         self.links[at].pop_front()

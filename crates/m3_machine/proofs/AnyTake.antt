@@ -6,8 +6,8 @@ use Rattle.m3_base.specs.declared.event.Event.{Event}
 use Rattle.m3_base.specs.Context.{Context}
 use Rattle.m3_base.specs.Places.{target, is_here}
 use Rattle.m3_merge.specs.Parts.{Each}
-use Rattle.m3_kernel.specs.Parts.{Site, tile_of, Heard, Parcel, Data, Save, Saved, Restore, Yield, Closed}
-use Rattle.m3_kernel.specs.Naming.{is_home, has_low_numbers}
+use Rattle.m3_kernel.specs.Parts.{Site, tile_of, Parcel, Data, Save, Saved, Restore, Yield, Closed}
+use Rattle.m3_kernel.specs.Naming.{is_home}
 use Rattle.m3_machine.specs.Tile.{act_in}
 use Rattle.m3_machine.specs.Machine.{Machine, tile_at, link_at, mstep}
 use Rattle.m3_machine.specs.Sound.{ParcelOk, Hypotheses, IsSound}

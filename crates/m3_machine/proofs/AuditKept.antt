@@ -3,7 +3,6 @@ use Rattle.std.proofs.Common.{◌≡◌, ℕ, zero, suc, ◌+◌, ◌≤◌, ◌
 use Rattle.std.specs.Prelude.{not, ◌==◌, ◌||◌, ◌&&◌, if◌then◌else◌}
 use Rattle.std.proofs.lemmas.Bool.Decides.{nat_tests}
 use Rattle.m3_base.specs.declared.journal.AuditLine.{AuditLine}
-use Rattle.m3_base.specs.declared.event.Entry.{Entry}
 use Rattle.m3_base.specs.declared.event.Event.{Event}
 use Rattle.m3_base.specs.declared.packet.Fresh.{Fresh}
 use Rattle.m3_base.specs.declared.packet.Packet.{Packet}
@@ -11,7 +10,7 @@ use Rattle.m3_base.specs.declared.order.GrantLine.{GrantLine}
 use Rattle.m3_base.specs.declared.setup_line.SetupLine.{SetupLine}
 use Rattle.m3_base.specs.Context.{Context}
 use Rattle.m3_base.specs.Audit.{audit_lines}
-use Rattle.m3_base.specs.Driver.{next_event}
+use Rattle.m3_base.specs.Driver as driver
 use Rattle.m3_base.specs.Credit as ideal
 use Rattle.m3_base.specs.Credit.{credits}
 use Rattle.m3_base.specs.Fits.{is_form}
@@ -19,33 +18,30 @@ use Rattle.m3_base.specs.Grants.{form}
 use Rattle.m3_base.specs.Legal as legal
 use Rattle.m3_base.specs.Legal.{flights_lines}
 use Rattle.m3_base.specs.Opening.{opening, granted, with_line, with_lines}
-use Rattle.m3_base.specs.Setup.{SetupValue, IsValid, facts_of}
+use Rattle.m3_base.specs.Setup.{SetupValue}
 use Rattle.m3_base.specs.State.{State, Standing, Live, Closing, Closed, Done, Grant, grant_in, is_live, is_done, parent_in, parent_of, context_of}
-use Rattle.m3_base.proofs.Obeying.{valid_ties}
 use Rattle.m3_endpoint.specs.Counts.{most}
 use Rattle.m3_laws.specs.Laws.{is_open, limit_of}
 use Rattle.m3_laws.specs.Lawful.{CreditsLawful}
 use Rattle.m3_merge.specs.Parts.{Each}
-use Rattle.m3_kernel.specs.Kernel.{is_under_close}
-use Rattle.m3_kernel.specs.Parts.{Home, Site}
-use Rattle.m3_machine.specs.Machine.{Machine, with_seats, seated_at_opening, context_or_new, tile_at}
-use Rattle.m3_machine.specs.At.{at, places_of, each, here, away, held_by, on_links, contexts_in, packets_in, all_contexts, all_packets, all_closed, is_in, closed_if, closed_from}
-use Rattle.m3_machine.specs.Closing.{NobodyAway, IsPlain, SentAreShut, contexts_on, packets_on, credit_line, credit_lines_from, credit_lines, live_lines_from, live_lines, held_count, flying_count, queued_count, lines, ideal_lines, IsCounted}
-use Rattle.m3_machine.specs.Kept.{IsKept}
-use Rattle.m3_machine.specs.Next.{next_take, tile_lines}
+use Rattle.m3_kernel.specs.Kernel.{is_under_close, ready_at}
+use Rattle.m3_kernel.specs.Parts.{Home, Site, Tile}
+use Rattle.m3_machine.specs.Machine.{Machine, with_seats, seated_at_opening, context_or_new, joined_ready, is_there, tile_at}
+use Rattle.m3_machine.specs.At.{at, places_of, all_contexts, all_packets, all_closed, is_in, closed_if, closed_from}
+use Rattle.m3_machine.specs.Closing.{SentAreShut, credit_line, live_lines_from, live_lines, held_count, flying_count, queued_count, lines, ideal_lines, IsCounted}
+use Rattle.m3_machine.specs.Kept.{IsNew, IsStill, IsKept}
+use Rattle.m3_machine.specs.Next.{next_event, tile_lines}
 use Rattle.m3_machine.specs.Sound.{IsShut}
 use Rattle.m3_machine.specs.Tally.{last_of, held, flying, queued}
 use Rattle.m3_machine.specs.Whole.{Whole, site, opened}
 use Rattle.m3_machine.proofs.Audited.{held_is, queued_is, flying_is}
-use Rattle.m3_machine.proofs.Flying.{none_held, length_by_name}
+use Rattle.m3_machine.proofs.Flying.{length_by_name}
 use Rattle.m3_machine.proofs.Nexts.{tile_lines_are}
+use Rattle.m3_machine.proofs.OpenedSound.{first_machine}
 use Rattle.m3_machine.proofs.Opens.{none_closed, site_is, homes_of}
-use Rattle.m3_machine.proofs.Quieting.{next_take_only}
+use Rattle.m3_machine.proofs.Quieting.{next_is}
 
 -- ---- the grants of a setup are live, and no Close of them was sent
-
-abbrev IsNew : Grant → Type 0
-IsNew x = (x.standing ≡ Live) × (x.close_sent ≡ false)
 
 new_more : (gs : List Grant) (x : Grant) → IsNew x → Each IsNew gs → Each IsNew (gs ++ x ∷ [])
 new_more [] x new k = (new, tt)
@@ -53,7 +49,7 @@ new_more (y ∷ gs) x new k = (k.0, new_more gs x new k.1)
 
 new_granted : (s : State) (line : GrantLine) (o : Option Fresh) → Each IsNew s.grants → Each IsNew (granted s line o).grants
 new_granted s line None k = k
-new_granted s line (Some f) k = new_more s.grants _ (refl, refl) k
+new_granted s line (Some f) k = new_more s.grants _ (record { live = refl; unsent = refl }) k
 
 new_line : (s : State) (l : SetupLine) → Each IsNew s.grants → Each IsNew (with_line s l).grants
 new_line s (SetupLine.Act a t) k = k
@@ -86,7 +82,7 @@ not_shut gs k (suc i) s = by_grant (slice_get gs i) refl (subst IsShut (let z : 
   where
     by_grant : (o : Option Grant) → slice_get gs i ≡ o → IsShut o → ⊥
     by_grant None e t = t
-    by_grant (Some x) e t = let n = new_at gs i x k e in absurd (let sent : x.close_sent ≡ false = n.1 in let u : is_under_close x ≡ true = t in cc)
+    by_grant (Some x) e t = let n = new_at gs i x k e in absurd (let sent : x.close_sent ≡ false = n.unsent in let u : is_under_close x ≡ true = t in cc)
 
 none_in : (ns : List ℕ) → ((g : ℕ) → is_in ns g ≡ true → ⊥) → ns ≡ []
 none_in [] k = refl
@@ -97,15 +93,6 @@ none_in (n ∷ ns) k = absurd (k n (let z : (n == n) ≡ true = grind (arith, na
 grants_kept : (s : State) (xs : List Home) (m : Machine) → (with_seats s m xs).kernel.grants ≡ m.kernel.grants
 grants_kept s [] m = refl
 grants_kept s (x ∷ xs) m = grants_kept s xs (seated_at_opening x (context_or_new x.act (context_of x.act s.contexts)) (tile_at x.tile m) m)
-
-yielded_kept : (s : State) (xs : List Home) (m : Machine) → (with_seats s m xs).kernel.yielded ≡ m.kernel.yielded
-yielded_kept s [] m = refl
-yielded_kept s (x ∷ xs) m = yielded_kept s xs (seated_at_opening x (context_or_new x.act (context_of x.act s.contexts)) (tile_at x.tile m) m)
-
-no_yield : (n t : ℕ) → get_or {A = Bool} (replicate n false) t false ≡ false
-no_yield zero t = refl
-no_yield (suc n) zero = refl
-no_yield (suc n) (suc t) = no_yield n t
 
 plain_homes : (ls : List SetupLine) → Each (λ x. x.has_program ≡ false) (homes_of [] ls)
 plain_homes [] = tt
@@ -196,6 +183,7 @@ under_sent x e = first x.close_sent (not (is_done x.standing)) e
 module _ (h : Site) (m : Machine) (kept : IsKept h m) (shut : SentAreShut m.kernel.grants) where
   abbrev cs : List Context
   cs = all_contexts m
+
   abbrev ps : List Packet
   ps = all_packets m
 
@@ -236,77 +224,60 @@ module _ (h : Site) (m : Machine) (kept : IsKept h m) (shut : SentAreShut m.kern
       ap (λ n. AuditLine.Flights n ∷ []) (let z : min most (length ps) ≡ length (at m).flights = omega arith in z)
 
   -- all lines, as the kernel knows its grants
-  pub kept_lines : (tiles : ℕ) (next : Option Event) → length (at m).flights ≤ most → next ≡ next_event (at m) (places_of h m) []
+  pub kept_lines : (tiles : ℕ) (next : Option Event) → length (at m).flights ≤ most → next ≡ driver.next_event (at m) (places_of h m) []
       → live_lines cs ps m.kernel.grants ++ tile_lines tiles m.tiles ++ (AuditLine.Flights (min most (length ps)) ∷ []) ++ AuditLine.Quiet (is_none next) ∷ [] ≡ audit_lines tiles (at m) (places_of h m) []
   kept_lines tiles next le quiet k =
       credits_kept k ++ sym (tile_lines_are tiles h m) k ++ flights_kept le k ++ AuditLine.Quiet (is_none (quiet k)) ∷ []
 
--- ---- a kept machine whose kernel is as at opening
-
-all_live : (h f q : ℕ → ℕ) (g : ℕ) (xs : List Grant) → Each IsNew xs → credit_lines_from h f q g xs ≡ live_lines_from h f q g xs
-all_live h f q g [] k = refl
-all_live h f q g (x ∷ xs) k =
-    (λ j. (if is_live (sym k.0.0 j) then credit_line h f q g x.fresh else []) ++ all_live h f q (g + 1) xs k.1 j)
-
-live_of : (xs : List Grant) → Each IsNew xs → Each (λ x. x.standing ≡ Live) xs
-live_of [] k = tt
-live_of (x ∷ xs) k = (k.0.0, live_of xs k.1)
+-- ---- a kept machine
 
 shut_of : (xs : List Grant) → Each IsNew xs → SentAreShut xs
 shut_of [] k = tt
-shut_of (x ∷ xs) k = (λ sent. absurd (let none : x.close_sent ≡ false = k.0.1 in cc), shut_of xs k.1)
+shut_of (x ∷ xs) k = (λ sent. absurd (let none : x.close_sent ≡ false = k.0.unsent in cc), shut_of xs k.1)
 
-module _ (s : SetupValue) (v : IsValid s) (m : Machine) (kept : IsKept (site s) m) (kernel : m.kernel ≡ (opened s).kernel) where
-  abbrev gs : List Grant
-  gs = (opening s.memory s.lines).grants
-
-  news : Each IsNew gs
-  news = new_lines (opening s.memory []) s.lines tt
-
-  grants_are : m.kernel.grants ≡ gs
-  grants_are = ap (λ k. k.grants) kernel ∙ grants_kept (opening s.memory s.lines) (site s).homes _
-
-  held_none : each held_by m.kernel.seats ≡ []
-  held_none = ap (λ k. each held_by k.seats) kernel ∙ none_held (site s) (opening s.memory s.lines)
-
+module _ (h : Site) (m : Machine) (kept : IsKept h m) where
   none_shut : all_closed m ≡ []
-  none_shut = none_in (all_closed m) (λ g e. not_shut gs news g (subst (λ xs. IsShut (grant_in xs g)) grants_are (kept.sound.shut g e)))
+  none_shut = none_in (all_closed m) (λ g e. not_shut m.kernel.grants kept.still.grants g (kept.sound.shut g e))
 
-  at_grants : (at m).grants ≡ gs
-  at_grants = ap (λ ns. closed_from 1 ns m.kernel.grants) none_shut ∙ none_closed 1 m.kernel.grants ∙ grants_are
+  at_grants : (at m).grants ≡ m.kernel.grants
+  at_grants = ap (λ ns. closed_from 1 ns m.kernel.grants) none_shut ∙ none_closed 1 m.kernel.grants
 
-  plain : IsPlain (site s) m
-  plain = record {
-    programs = subst (λ (xs : List Home). Each (λ x. x.has_program ≡ false) xs) (sym (ap (λ (x : Site). x.homes) (site_is [] (record { homes = []; quantum = 8; memory = s.memory }) s.lines))) (plain_homes s.lines);
-    yielded = λ t. ap (λ k. get_or k.yielded t false) kernel ∙ ap (λ ys. get_or ys t false) (yielded_kept (opening s.memory s.lines) (site s).homes _) ∙ no_yield 16 t;
-  }
+  quiet_is : next_event m ≡ driver.next_event (at m) (places_of h m) []
+  quiet_is = sym (next_is h m kept.sound kept.still (subst (Each IsNew) (sym at_grants) kept.still.grants))
 
-  quiet_is : next_event (at m) (places_of (site s) m) [] ≡ next_take m
-  quiet_is = next_take_only (site s) m plain held_none (subst (Each (λ x. x.standing ≡ Live)) (sym at_grants) (live_of gs news))
-
-  shut : SentAreShut m.kernel.grants
-  shut = subst SentAreShut (sym grants_are) (shut_of gs news)
-
-  module _ (nobody : NobodyAway m) where
-    contexts_are : contexts_on m.tiles m.links ≡ all_contexts m
-    contexts_are = sym (ap (λ cs. each here m.tiles ++ (cs ++ on_links contexts_in m.links)) nobody)
-
-    packets_are : packets_on m.links ≡ all_packets m
-    packets_are = sym (ap (λ ps. ps ++ on_links packets_in m.links) held_none)
-
-    facts_are : (facts_of s).grants ≡ m.kernel.grants
-    facts_are = (valid_ties s v).grants ∙ sym grants_are
-
-    credits_are : credit_lines (contexts_on m.tiles m.links) (packets_on m.links) (facts_of s).grants ≡ live_lines (all_contexts m) (all_packets m) m.kernel.grants
-    credits_are =
-        (λ k. credit_lines (contexts_are k) (packets_are k) (facts_are k))
-        ∙ all_live (held_count (all_contexts m) (all_packets m)) (flying_count (all_contexts m) (all_packets m)) (queued_count (all_contexts m) (all_packets m)) 1 m.kernel.grants (subst (Each IsNew) (sym grants_are) news)
-
-    pub audited : length (at m).flights ≤ most → (entries : List Entry) → lines (record { setup = s; machine = m; entries = entries }) ≡ ideal_lines (record { setup = s; machine = m; entries = entries })
-    audited le entries =
-        (λ k. credits_are k ++ tile_lines s.tiles m.tiles ++ (AuditLine.Flights (min most (length (packets_are k))) ∷ []) ++ AuditLine.Quiet (is_none (next_take m)) ∷ [])
-        ∙ kept_lines (site s) m kept shut s.tiles (next_take m) le (sym quiet_is)
+  pub audited : (tiles : ℕ) → length (at m).flights ≤ most
+      → live_lines (all_contexts m) (all_packets m) m.kernel.grants ++ tile_lines tiles m.tiles ++ (AuditLine.Flights (min most (length (all_packets m))) ∷ []) ++ AuditLine.Quiet (is_none (next_event m)) ∷ [] ≡ audit_lines tiles (at m) (places_of h m) []
+  audited tiles le = kept_lines h m kept (shut_of m.kernel.grants kept.still.grants) tiles (next_event m) le quiet_is
 
 -- the lines are those of the ideal state and the places
-pub audit_is : (w : Whole) → IsValid w.setup → w.machine.kernel ≡ (opened w.setup).kernel → IsCounted w → lines w ≡ ideal_lines w
-audit_is w v kernel c = audited w.setup v w.machine c.kept kernel (ap (λ k. each away k.seats) kernel ∙ c.nobody) c.flights_few w.entries
+pub audit_is : (w : Whole) → IsCounted w → lines w ≡ ideal_lines w
+audit_is w c = audited (site w.setup) w.machine c.kept w.setup.tiles c.flights_few
+
+-- ---- the kernel that a setup opens
+
+seats_ready : (s : State) (xs : List Home) (m : Machine) → Each (λ x. x.has_program ≡ false) xs → ((t : ℕ) → ready_at t m.kernel ≡ []) → (t : ℕ) → ready_at t (with_seats s m xs).kernel ≡ []
+seats_ready s [] m k none = none
+seats_ready s (x ∷ xs) m k none =
+    let c : Context = context_or_new x.act (context_of x.act s.contexts) in
+    let t : Tile = tile_at x.tile m in
+    seats_ready s xs (seated_at_opening x c t m) k.1 (λ u. nobody_joins (is_there t.current) x.has_program k.0 u ∙ none u)
+  where
+    nobody_joins : (a b : Bool) → b ≡ false → (u : ℕ) → get_or (joined_ready (a && b) x.tile x.act m.kernel.ready) u [] ≡ get_or m.kernel.ready u []
+    nobody_joins a true e u = absurd (cc)
+    nobody_joins true false e u = refl
+    nobody_joins false false e u = refl
+
+nobody_ready : (n t : ℕ) → get_or {A = List ℕ} (replicate n []) t [] ≡ []
+nobody_ready zero t = refl
+nobody_ready (suc n) zero = refl
+nobody_ready (suc n) (suc t) = nobody_ready n t
+
+-- nobody is ready, and no Close was sent
+pub opened_still : (s : SetupValue) → IsStill (site s) (opened s).kernel
+opened_still s =
+    let plain : Each (λ x. x.has_program ≡ false) (site s).homes = subst (λ (xs : List Home). Each (λ x. x.has_program ≡ false) xs) (sym (ap (λ (x : Site). x.homes) (site_is [] (record { homes = []; quantum = 8; memory = s.memory }) s.lines))) (plain_homes s.lines) in
+    record {
+      programs = plain;
+      ready = seats_ready (opening s.memory s.lines) (site s).homes (first_machine (opening s.memory s.lines)) plain (nobody_ready 16);
+      grants = subst (Each IsNew) (sym (grants_kept (opening s.memory s.lines) (site s).homes (first_machine (opening s.memory s.lines)))) (new_lines (opening s.memory []) s.lines tt);
+    }

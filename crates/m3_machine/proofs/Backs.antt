@@ -23,7 +23,7 @@ use Rattle.m3_kernel.specs.Naming.{is_named, is_named_context, has_low_numbers}
 use Rattle.m3_kernel.specs.Parcels.{heard_in, parcel_of, out_of}
 use Rattle.m3_machine.specs.Tile.{with_current, stay_of, take_data, take_here, take_arrived, arrive_named, act_in, waits, has_ended, take_save, restored, take_restore, tile_take}
 use Rattle.m3_machine.specs.Memory.{may_serve, served, serve, memory_take}
-use Rattle.m3_machine.specs.Whole.{back_of, HasRoomFor, RoomToTake}
+use Rattle.m3_machine.specs.Sends.{back_of, HasRoomFor, RoomToTake}
 use Rattle.m3_machine.proofs.Commanding.{head_of, no_head}
 
 -- ---- where what goes out goes

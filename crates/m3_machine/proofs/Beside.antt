@@ -126,7 +126,7 @@ module _ (h : Site) (m : Machine) where
     both : (t : ℕ) (p : places.Standing_place → Bool) (q : Seating → Bool) → ((w : Seating) → p (standing w) ≡ q w) → ((y.tile == t) && p (actor_in m y).place) ≡ ((tile_of h x.act == t) && q x.seating)
     both t p q e = ap (λ w. (y.tile == t) && p w) actor_place ∙ ap (λ b. (y.tile == t) && b) (e x.seating) ∙ ap (λ n. (n == t) && q x.seating) (sym seat_tile)
 
-    length-names : length (map name_of x.hold) ≡ length x.hold
+    pub length-names : length (map name_of x.hold) ≡ length x.hold
     length-names = go x.hold
       where
         go : (ps : List Packet) → length (map name_of ps) ≡ length ps

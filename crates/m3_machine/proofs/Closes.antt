@@ -120,7 +120,7 @@ module _ (h : Site) (m : Machine) (sound : IsSound h m) (hyp : Hypotheses m) (ma
   all_shut : AllShut X 1 G
   all_shut = shut_by X 1 G shut_at
 
-  least : least_closing (at m).grants 1 (at m).grants ≡ least_closing G 1 G
+  pub least : least_closing (at m).grants 1 (at m).grants ≡ least_closing G 1 G
   least = least_same X (at m).grants G (λ n. child_same n X 1 G all_shut) 1 G all_shut
 
   module _ (g : ℕ) (due : least_closing G 1 G ≡ Some g) where

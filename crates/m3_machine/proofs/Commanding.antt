@@ -1,8 +1,7 @@
 -- The machine's step at a command, from the tile's.
-use Rattle.std.proofs.Common.{◌≡◌, ℕ, zero, suc, ◌+◌, ◌<◌, ◌≤◌, Bool, true, false, List, [], ◌∷◌, ◌++◌, length, length-append, map, get_or, set, Option, Some, None, refl, sym, ap, ◌∙◌, subst, arith, ⊎_elim}
+use Rattle.std.proofs.Common.{◌≡◌, ℕ, zero, suc, ◌+◌, ◌<◌, ◌≤◌, Bool, true, false, List, [], ◌∷◌, ◌++◌, length, length-append, map, get_or, set, Option, Some, None, refl, sym, ap, ◌∙◌, subst, arith}
 use Rattle.std.specs.Prelude.{if◌then◌else◌, ◌==◌}
-use Rattle.std.proofs.lemmas.List.{get_or-set_same, get_or-set_other, get_or_default, length-set, map-set, map-append}
-use Rattle.std.proofs.lemmas.Bool.{cases_eq}
+use Rattle.std.proofs.lemmas.List.{get_or_default, map-set, map-append}
 use Rattle.std.proofs.lemmas.Bool.Decides.{nat_tests}
 use Rattle.m3_base.specs.declared.command.Command.{Command}
 use Rattle.m3_base.specs.declared.packet.Packet.{Packet}
@@ -26,7 +25,8 @@ use Rattle.m3_base.specs.declared.event.Entry.{Entry}
 use Rattle.m3_base.specs.Setup.{SetupValue, IsValid}
 use Rattle.m3_kernel.specs.Parts.{Home, Kernel, home_of, tile_in}
 use Rattle.m3_kernel.specs.Homes.{home_tile}
-use Rattle.m3_machine.specs.Whole.{Whole, site, machine_of, entry, out_links, HasRoomFor, Steps}
+use Rattle.m3_machine.specs.Whole.{Whole, site, machine_of, entry, out_links, Steps}
+use Rattle.m3_machine.specs.Sends.{HasRoomFor}
 use Rattle.m3_machine.proofs.Valid.{home_high}
 use Rattle.m3_machine.specs.Machine as plain
 use Rattle.m3_machine.proofs.Aiming.{issue_goes, GoesTo, AllGo}

@@ -1,5 +1,5 @@
 -- A fact on each element of a list: where one changes, and where one is read.
-use Rattle.std.proofs.Common.{◌≡◌, ℕ, zero, suc, Bool, true, false, cond, List, [], ◌∷◌, get_or, set, drop, Option, Some, None, refl, subst}
+use Rattle.std.proofs.Common.{ℕ, zero, suc, Bool, true, false, cond, List, [], ◌∷◌, get_or, set, drop, Option, Some, None}
 use Rattle.m3_base.specs.Keyed as keyed
 use Rattle.m3_merge.specs.Parts.{Each}
 

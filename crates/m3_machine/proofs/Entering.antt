@@ -9,7 +9,9 @@ use Rattle.std.specs.declared.alloc.Global.{Global}
 use Rattle.m3_base.specs.Context.{Context}
 use Rattle.m3_base.specs.State.{same_act}
 use Rattle.m3_core.specs.declared.parcel.Parcel.{Parcel as CodeParcel}
-use Rattle.m3_kernel.specs.Parts.{Parcel}
+use Rattle.m3_kernel.specs.declared.seat.Seat.{Seat as CodeSeat}
+use Rattle.m3_kernel.specs.Seats.{seat_value, seats_of}
+use Rattle.m3_kernel.specs.Parts.{Seat, Parcel}
 use Rattle.m3_kernel.specs.Parcels.{parcel_of, parcels_of}
 use Rattle.m3_link.specs.Wires.{lists_in}
 use Rattle.m3_machine.specs.At.{each, on_links}
@@ -52,6 +54,13 @@ module _ {X Y : Type 0} (f : X → List Y) where
 
   pub each_past : (xs : List X) (i : ℕ) → length xs ≤ i → each f (drop i xs) ≡ []
   each_past xs i past = ap (each f) (drop_of_length-le xs past)
+
+module _ {Y : Type 0} (f : Seat → List Y) where
+  pub seats_more : (seats : List CodeSeat) (i : ℕ) (x : CodeSeat) → i < length seats → x ≡ get_or seats i x → each f (seats_of (drop i seats)) ≡ f (seat_value x) ++ each f (seats_of (drop (i + 1) seats))
+  seats_more seats i x within is = ap (λ (ss : List CodeSeat). each f (seats_of ss)) (drop_more seats i x within ∙ ap (λ (y : CodeSeat). y ∷ drop (i + 1) seats) (sym is))
+
+  pub seats_past : (seats : List CodeSeat) (i : ℕ) → length seats ≤ i → each f (seats_of (drop i seats)) ≡ []
+  seats_past seats i past = ap (λ (ss : List CodeSeat). each f (seats_of ss)) (drop_of_length-le seats past)
 
 module _ {Y : Type 0} (f : Parcel → List Y) where
   pub links_more : (links : List (VecDeque CodeParcel Global)) (i : ℕ) (x : VecDeque CodeParcel Global) → i < length links → x ≡ get_or links i x

@@ -1,6 +1,5 @@
 -- The outcome of a step belongs to its event by its form.
-use Rattle.std.proofs.Common.{◌≡◌, ℕ, ◌+◌, Bool, true, false, List, [], ◌∷◌, replicate, length, Option, Some, None, refl, sym, subst, arith}
-use Rattle.std.proofs.lemmas.Bool.Decides.{nat_tests}
+use Rattle.std.proofs.Common.{◌≡◌, ℕ, ◌+◌, Bool, true, false, List, [], ◌∷◌, replicate, length, Option, Some, None, refl, subst}
 use Rattle.std.specs.Prelude.{if◌then◌else◌, ◌==◌, ◌&&◌, ◌||◌, not, ◌++◌}
 use Rattle.std.specs.List.{list_any}
 use Rattle.m3_base.specs.declared.command.Answer.{Answer}
@@ -26,7 +25,7 @@ use Rattle.m3_base.specs.Issue.{Flies, Issued, first_of, unless, unless_busy, is
 use Rattle.m3_base.specs.Land.{bytes_at, written_at, land, has_send, has_live, closed_at, flies_at, flying_at}
 use Rattle.m3_base.specs.Places.{target, is_here}
 use Rattle.m3_base.specs.Receive.{fetched_at, unmarked}
-use Rattle.m3_machine.specs.Machine.{Machine, Did, Part, Is_kernel, Is_memory, Is_tile, tile_at, link_at, mstep, part_at, part_step, tile_for_event, took, popped, front, done_by}
+use Rattle.m3_machine.specs.Machine.{Machine, Did, Part, Is_kernel, Is_memory, Is_tile, link_at, mstep, part_at, part_step, tile_for_event, took, popped, front, done_by}
 use Rattle.m3_kernel.specs.Naming.{is_named, is_named_context, has_low_numbers}
 use Rattle.m3_kernel.specs.Parts.{tile_of, has_program, Site, Heard, Stay, Tile, Away, Seating, Is_placed, Is_leaving, Is_resting, Is_coming, Seat, Kernel, Deed, says, is_idle, dropped, closed_out, Parcel, Data, Save, Saved, Restore, Yield, Closed}
 use Rattle.m3_kernel.specs.Kernel as kernel

@@ -21,6 +21,7 @@ use Rattle.m3_machine.specs.Kept.{IsKept, IsWithin, Means}
 use Rattle.m3_machine.proofs.Forms.{form_of}
 use Rattle.m3_machine.proofs.Tame.{IsNoTurn, OrdersTile, TameIn, part_tame}
 use Rattle.m3_machine.proofs.Moves.{tile_below, step_moves}
+use Rattle.m3_machine.proofs.Still.{still_kept}
 use Rattle.m3_machine.proofs.Doing.{do_refines}
 use Rattle.m3_machine.proofs.AnyTake.{take_refines}
 use Rattle.m3_machine.proofs.Tends.{tend_refines}
@@ -126,5 +127,9 @@ module _ (h : Site) (m : Machine) (e : Event) (o : Outcome) (next : Machine) (st
     reaches = subst (λ (z : Option Made). ran_to (irun (steps_of e (record { made = z; said = o.said; restore = o.restore })) (at m)) (at m) ≡ at next) (sym plain) (laws.says h m e None did (no_turn m e served) refined).1;
     placed = record { form = form_of h m e o next step served; moves = moves_as e refl served };
     moves = step_moves h m e kept.sound within (unmade e served) (orders e served within) did step;
-    kept = record { sound = refined.1; law = quiet_kept h m e None did (no_turn m e served) refined (quiet e served) kept.law };
+    kept = record {
+      sound = refined.1;
+      law = quiet_kept h m e None did (no_turn m e served) refined (quiet e served) kept.law;
+      still = still_kept h m e did served kept.still step;
+    };
   }

@@ -1,5 +1,5 @@
 -- Each step of the kernel keeps next numbers and next tokens low.
-use Rattle.std.proofs.Common.{◌≡◌, ℕ, ◌+◌, Bool, true, false, cond, List, [], ◌∷◌, ◌++◌, length, Option, Some, None}
+use Rattle.std.proofs.Common.{ℕ, Bool, true, false, List, [], ◌∷◌, ◌++◌, Option, Some, None}
 use Rattle.std.specs.Prelude.{if◌then◌else◌, ◌==◌, ◌&&◌, ◌||◌, not}
 use Rattle.std.specs.List.{list_any}
 use Rattle.m3_merge.specs.Parts.{Each}
@@ -7,7 +7,6 @@ use Rattle.m3_merge.proofs.Merged.{each_append}
 use Rattle.m3_base.specs.declared.packet.Packet.{Packet}
 use Rattle.m3_base.specs.declared.event.Said.{Said}
 use Rattle.m3_base.specs.declared.event.No.{No}
-use Rattle.m3_base.specs.Flight.{name_of}
 use Rattle.m3_base.specs.Context.{Context}
 use Rattle.m3_base.specs.State.{Grant, grant_in, same_act}
 use Rattle.m3_base.specs.Places.{target}
@@ -15,8 +14,7 @@ use Rattle.m3_base.specs.Arrive.{Arrived, arrive}
 use Rattle.m3_base.specs.Fits.{fits, arrive_fit}
 use Rattle.m3_kernel.specs.Naming.{is_named}
 use Rattle.m3_kernel.specs.Parts.{Site, tile_of, has_program, Parcel, Data, Save, Saved, Restore, Yield, Closed, Away, Seating, Is_placed, Is_leaving, Is_resting, Is_coming, Seat, Kernel, says, dropped, closed_out}
-use Rattle.m3_kernel.specs.Kernel as kernel
-use Rattle.m3_kernel.specs.Kernel.{seat_act, seat_of, with_seat, seated, is_placed_seat, is_leaving_seat, join_ready, leave_ready, with_yielded, Routed, hold, route_to, seat_for, route, first_due, is_due_seat, is_leaving_at, restored_by, restored, then_restore, routed_said, target_or, take_routed, rests, take_saved, done_grant, is_under_close, take_closed, take_yield, take_data, kernel_take, answer_routed, tended_by, after_packet, tend_arrived, arrived_context, tend_away, tend_front, tend_seat, tend_by, kernel_tend, placed_at, is_moving_at, switched, switch_seat, switch}
+use Rattle.m3_kernel.specs.Kernel.{seat_act, seat_of, with_seat, seated, is_placed_seat, is_leaving_seat, join_ready, with_yielded, Routed, hold, route_to, seat_for, route, first_due, is_due_seat, is_leaving_at, restored_by, restored, then_restore, take_routed, rests, take_saved, done_grant, is_under_close, take_closed, take_yield, take_data, kernel_take, answer_routed, tended_by, after_packet, tend_arrived, arrived_context, tend_away, tend_front, tend_seat, tend_by, kernel_tend, placed_at, is_moving_at, switched, switch_seat, switch}
 use Rattle.m3_machine.specs.Machine.{of_kernel}
 use Rattle.m3_machine.specs.Low.{HasLow, LowParcel, LowSeating, LowSeat}
 use Rattle.m3_machine.proofs.ArrivingLow.{AllArrive, arrive_low}

@@ -1,14 +1,14 @@
 -- What parts and parcels keep low, as the journal grows by one entry.
-use Rattle.std.proofs.Common.{◌≡◌, ℕ, ◌+◌, ◌*◌, Bool, true, false, List, [], ◌∷◌, ◌++◌, Option, Some, None, refl, sym, subst, drop, set}
+use Rattle.std.proofs.Common.{◌≡◌, ℕ, ◌+◌, ◌*◌, List, [], ◌∷◌, ◌++◌, Option, Some, None, subst}
 use Rattle.m3_merge.specs.Parts.{Each}
 use Rattle.m3_merge.proofs.Merged.{each_append, each_map}
 use Rattle.m3_base.specs.declared.packet.Packet.{Packet}
 use Rattle.m3_base.specs.declared.event.Event.{Event}
 use Rattle.m3_base.specs.Context.{Context}
-use Rattle.m3_kernel.specs.Parts.{Site, Parcel, Data, Save, Saved, Restore, Yield, Closed, Tile, Seating, Is_placed, Is_leaving, Is_resting, Is_coming, Seat, Deed, data_out, closed_out}
+use Rattle.m3_kernel.specs.Parts.{Site, Parcel, Data, Save, Saved, Restore, Yield, Closed, Seating, Is_placed, Is_leaving, Is_resting, Is_coming, Seat, Deed, data_out, closed_out}
 use Rattle.m3_machine.specs.Tile.{new_out}
-use Rattle.m3_machine.specs.Machine.{Machine, Part, Is_kernel, Is_memory, Is_tile, Did, empty_tile, link_at, with_part, with_link, pushed, pushed_all, rest, popped, done_by}
-use Rattle.m3_machine.specs.Low.{HasLow, LowIn, LowTile, LowParcel, LowLink, LowSeating, LowSeat, IsLow}
+use Rattle.m3_machine.specs.Machine.{Machine, Part, Is_kernel, Is_memory, Is_tile, Did, link_at, with_part, with_link, pushed, pushed_all, rest, popped, done_by}
+use Rattle.m3_machine.specs.Low.{LowIn, LowTile, LowParcel, LowLink, LowSeating, LowSeat, IsLow}
 use Rattle.m3_machine.proofs.Numbers.{low_more}
 use Rattle.m3_machine.proofs.Eaches.{each_read, each_write}
 

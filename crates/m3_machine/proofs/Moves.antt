@@ -1,21 +1,21 @@
 -- A step of the machine is a move of its parts over their links.
-use Rattle.std.proofs.Common.{◌≡◌, ℕ, zero, suc, ◌+◌, ◌*◌, ◌<◌, ◌≤◌, Bool, true, false, cond, List, [], ◌∷◌, ◌++◌, Option, Some, None, refl, sym, subst, ◌∙◌, ap, arith, set, get_or, length, append_assoc}
+use Rattle.std.proofs.Common.{◌≡◌, ℕ, ◌+◌, ◌*◌, ◌<◌, ◌≤◌, Bool, true, false, cond, List, [], ◌∷◌, ◌++◌, Option, Some, None, refl, sym, subst, ◌∙◌, ap, arith, get_or, length, append_assoc}
 use Rattle.std.specs.Prelude.{◌==◌, nat_lt}
 use Rattle.std.proofs.lemmas.List.{append-nil}
 use Rattle.std.proofs.lemmas.Bool.Decides.{nat_tests}
 use Rattle.m3_base.specs.declared.event.Event.{Event}
 use Rattle.m3_base.specs.declared.event.Made.{Made}
 use Rattle.m3_base.specs.declared.event.Entry.{Entry}
-use Rattle.m3_merge.specs.Parts.{Item, Each, LinkMoves, from, to, takes, puts, either, Moves}
+use Rattle.m3_merge.specs.Parts.{Item, LinkMoves, from, to, takes, puts, either}
 use Rattle.m3_kernel.specs.Parts.{Home, Site, home_of, tile_in, tile_of, Parcel, Tile, Deed}
 use Rattle.m3_machine.specs.Machine.{Machine, Did, Part, Is_kernel, Is_memory, Is_tile, part_at, with_part, link_at, with_link, pushed, pushed_all, of_turn, tile_at, part_step, tile_for_event, front, rest, took, popped, done_by, mstep}
 use Rattle.m3_machine.specs.Sound.{IsSetup, IsSound}
 use Rattle.m3_machine.specs.Kept.{IsWithin}
 use Rattle.m3_machine.specs.Tile.{tile_turn}
-use Rattle.m3_machine.specs.Moving.{parcel_of, TakesFrom, Steps, parts_of, MovesBy, MovesByEntry}
-use Rattle.m3_machine.proofs.Tame.{AreTiles, IsTame, TameIn, IsNoTurn, OrdersTile, part_tame}
+use Rattle.m3_machine.specs.Moving.{parcel_of, TakesFrom, Steps, MovesBy, MovesByEntry}
+use Rattle.m3_machine.proofs.Tame.{AreTiles, TameIn, IsNoTurn, OrdersTile, part_tame}
 use Rattle.m3_machine.proofs.Moved.{length-set}
-use Rattle.m3_machine.proofs.Sets.{get_or-set, same_link, is_link}
+use Rattle.m3_machine.proofs.Sets.{get_or-set, same_link}
 
 -- ---- parts
 

@@ -1,5 +1,5 @@
 -- The machine that a setup opens has low numbers, and the memory that its setup says.
-use Rattle.std.proofs.Common.{◌≡◌, ℕ, zero, suc, ◌≤◌, Bool, true, false, List, [], ◌∷◌, ◌++◌, get_or, set, map, replicate, Option, Some, None, refl, sym, ap, ◌∙◌, subst, arith}
+use Rattle.std.proofs.Common.{◌≡◌, ℕ, zero, suc, List, [], ◌∷◌, get_or, map, replicate, Option, Some, None, refl, ◌∙◌, arith}
 use Rattle.m3_merge.specs.Parts.{Each}
 use Rattle.m3_merge.proofs.Merged.{each_append}
 use Rattle.m3_base.specs.declared.setup_line.SetupLine.{SetupLine}
@@ -8,12 +8,10 @@ use Rattle.m3_base.specs.declared.order.GrantLine.{GrantLine}
 use Rattle.m3_base.specs.Context.{Context}
 use Rattle.m3_base.specs.State.{State, context_of}
 use Rattle.m3_base.specs.Opening.{opening, granted, with_line, with_lines}
-use Rattle.m3_base.specs.Grants.{form}
-use Rattle.m3_base.specs.State as state
 use Rattle.m3_base.specs.Setup.{SetupValue, IsValid}
-use Rattle.m3_kernel.specs.Parts.{Home, Tile, Parcel}
+use Rattle.m3_kernel.specs.Parts.{Home, Tile}
 use Rattle.m3_machine.specs.Table.{HasContexts}
-use Rattle.m3_machine.specs.Machine.{Machine, empty_tile, empty_tiles, tile_at, context_or_new, first_there, opened_seating, seated_at_opening, with_seats}
+use Rattle.m3_machine.specs.Machine.{Machine, empty_tile, tile_at, context_or_new, first_there, opened_seating, seated_at_opening, with_seats}
 use Rattle.m3_machine.specs.Low.{HasLow, LowIn, LowTile, LowSeating, LowSeat, LowLink, IsLow}
 use Rattle.m3_machine.specs.Whole.{site, opened}
 use Rattle.m3_machine.proofs.Eaches.{each_read, each_write}

@@ -1,24 +1,23 @@
 -- What the driver does next in a machine whose activities have no program.
-use Rattle.std.proofs.Common.{◌≡◌, ℕ, ◌+◌, ◌∙◌, Bool, true, false, List, [], ◌∷◌, ◌++◌, length, map, get_or, Option, Some, None, refl, sym, ap}
-use Rattle.std.specs.Prelude.{not, ◌&&◌, ◌||◌, ◌==◌, if◌then◌else◌}
+use Rattle.std.proofs.Common.{◌≡◌, ℕ, ◌+◌, ◌∙◌, Bool, true, false, List, [], ◌∷◌, map, get_or, Option, Some, None, refl, sym, ap}
+use Rattle.std.specs.Prelude.{not, ◌&&◌, if◌then◌else◌}
 use Rattle.m3_base.specs.declared.event.Event.{Event}
-use Rattle.m3_base.specs.declared.ids.FlightId.{FlightId}
-use Rattle.m3_base.specs.Flight.{name_of}
-use Rattle.m3_base.specs.State.{State, Standing, Live, Closing, Closed, Done, Grant, context_of, same_act}
+use Rattle.m3_base.specs.State.{State, Standing, Live, Closing, Closed, Done, Grant, context_of}
 use Rattle.m3_base.specs.Grants.{is_closing_grant, is_open_child}
-use Rattle.m3_base.specs.Places.{Actor, actor, current_of, least_closing, is_moving_at, is_waiting_turn, busy_any, ready_at, is_placed, is_leaving}
+use Rattle.m3_base.specs.Places.{Actor, actor, current_of, least_closing, is_moving_at, is_waiting_turn, busy_any, ready_at}
 use Rattle.std.specs.List.{list_any}
 use Rattle.m3_base.specs.Driver as driver
-use Rattle.m3_base.specs.Driver.{tiles, first_for, first_some, least_tend, tend_of, close_of, turn_by, actor_at, wanted_at, switch_to, next_event, least_of}
+use Rattle.m3_base.specs.Driver.{tiles, first_for, first_some, tend_of, close_of, turn_by, actor_at, wanted_at, switch_to}
 use Rattle.m3_base.specs.Keyed.{find}
 use Rattle.m3_base.specs.Places.{actor_act, same_actor}
 use Rattle.m3_merge.specs.Parts.{Each}
-use Rattle.m3_kernel.specs.Parts.{Home, Site, Seat}
-use Rattle.m3_kernel.specs.Kernel.{seat_act}
+use Rattle.m3_kernel.specs.Parts.{Home, Site}
 use Rattle.m3_machine.specs.Machine.{Machine}
-use Rattle.m3_machine.specs.At.{at, places_of, actor_in, each, held_by, hold_in}
-use Rattle.m3_machine.specs.Next.{next_take}
-use Rattle.m3_machine.specs.Closing.{IsPlain}
+use Rattle.m3_machine.specs.At.{at, places_of, actor_in}
+use Rattle.m3_machine.specs.Next.{next_take, next_event, least_tend}
+use Rattle.m3_machine.specs.Kept.{IsNew, IsStill}
+use Rattle.m3_machine.specs.Sound.{IsSound}
+use Rattle.m3_machine.proofs.Driving.{tend_same}
 use Rattle.m3_machine.proofs.Nexts.{next_is_driver}
 
 none_for : (ts : List ℕ) (f : ℕ → Option Event) → ((t : ℕ) → f t ≡ None) → first_for ts f ≡ None
@@ -47,17 +46,17 @@ no_turn_by s (Some x) k = by_program x.has_program (k x refl)
     by_program true e = absurd (cc)
     by_program false e = refl
 
-no_turn_at : (h : Site) (m : Machine) → IsPlain h m → (o : Option ℕ) → turn_by (at m) (actor_at (places_of h m) o) ≡ None
+no_turn_at : (h : Site) (m : Machine) → IsStill h m.kernel → (o : Option ℕ) → turn_by (at m) (actor_at (places_of h m) o) ≡ None
 no_turn_at h m plain None = refl
 no_turn_at h m plain (Some a) = no_turn_by (at m) (actor a (places_of h m)) (λ y e. plain_actor m a h.homes plain.programs y e)
 
-no_wish : (h : Site) (m : Machine) → IsPlain h m → (t : ℕ) → wanted_at (places_of h m) t ≡ None
-no_wish h m plain t = by_yield (not (list_any (is_moving_at t) (places_of h m).actors)) (get_or m.kernel.yielded t false) (plain.yielded t)
+no_wish : (h : Site) (m : Machine) → IsStill h m.kernel → (t : ℕ) → wanted_at (places_of h m) t ≡ None
+no_wish h m still t = by_list (not (list_any (is_moving_at t) (places_of h m).actors) && get_or m.kernel.yielded t false) (ready_at t (places_of h m)) (still.ready t)
   where
-    by_yield : (a b : Bool) → b ≡ false → (if a && b then switch_to t (ready_at t (places_of h m)) else None) ≡ None
-    by_yield a true e = absurd (cc)
-    by_yield true false e = refl
-    by_yield false false e = refl
+    by_list : (b : Bool) (xs : List ℕ) → xs ≡ [] → (if b then switch_to t xs else None) ≡ None
+    by_list true [] e = refl
+    by_list false xs e = refl
+    by_list true (x ∷ xs) e = absurd (cc)
 
 three : (a b c d e f : Option Event) → d ≡ None → e ≡ None → f ≡ None → first_some (a ∷ b ∷ c ∷ d ∷ e ∷ f ∷ []) ≡ first_some (a ∷ b ∷ c ∷ [])
 three (Some x) b c d e f i j k = refl
@@ -66,48 +65,21 @@ three None None (Some x) d e f i j k = refl
 three None None None d e f i j k = λ n. first_some (i n ∷ j n ∷ k n ∷ [])
 
 -- the driver's next event is a take, else a tend, else a close
-pub next_plain : (h : Site) (m : Machine) → IsPlain h m
-    → next_event (at m) (places_of h m) [] ≡ first_some (next_take m ∷ tend_of (least_tend (places_of h m).actors) ∷ close_of (least_closing (at m).grants 1 (at m).grants) ∷ [])
+pub next_plain : (h : Site) (m : Machine) → IsStill h m.kernel
+    → driver.next_event (at m) (places_of h m) [] ≡ first_some (next_take m ∷ tend_of (driver.least_tend (places_of h m).actors) ∷ close_of (least_closing (at m).grants 1 (at m).grants) ∷ [])
 next_plain h m plain =
-    let tend = tend_of (least_tend (places_of h m).actors) in
+    let tend = tend_of (driver.least_tend (places_of h m).actors) in
     let close = close_of (least_closing (at m).grants 1 (at m).grants) in
     three (driver.next_take (places_of h m)) tend close None (first_for tiles (wanted_at (places_of h m))) (first_for tiles (λ t. turn_by (at m) (actor_at (places_of h m) (current_of t (places_of h m))))) refl
     (none_for tiles (wanted_at (places_of h m)) (no_wish h m plain))
     (none_for tiles (λ t. turn_by (at m) (actor_at (places_of h m) (current_of t (places_of h m)))) (λ t. no_turn_at h m plain (current_of t (places_of h m))))
     ∙ ap (λ o. first_some (o ∷ tend ∷ close ∷ [])) (next_is_driver h m)
 
--- ---- nothing is held, and nothing closes
+-- ---- nothing closes
 
-first_nil : {X : Type 0} (xs ys : List X) → xs ++ ys ≡ [] → xs ≡ []
-first_nil [] ys e = refl
-first_nil (x ∷ xs) ys e = absurd (cc)
-
-rest_nil : {X : Type 0} (xs ys : List X) → xs ++ ys ≡ [] → ys ≡ []
-rest_nil [] ys e = e
-rest_nil (x ∷ xs) ys e = absurd (cc)
-
-none_in : (a : ℕ) (seats : List Seat) → each held_by seats ≡ [] → hold_in (find seat_act same_act a seats) ≡ []
-none_in a [] e = refl
-none_in a (x ∷ seats) e = by_test (same_act a x.act) (none_in a seats (rest_nil x.hold (each held_by seats) e))
-  where
-    by_test : (b : Bool) → hold_in (find seat_act same_act a seats) ≡ [] → hold_in (if b then Some x else find seat_act same_act a seats) ≡ []
-    by_test true k = ap (map name_of) (first_nil x.hold (each held_by seats) e)
-    by_test false k = k
-
-no_tend : (m : Machine) → each held_by m.kernel.seats ≡ [] → (xs : List Home) → least_tend (map (actor_in m) xs) ≡ None
-no_tend m e [] = refl
-no_tend m e (x ∷ xs) =
-    by_hold (actor_in m x).hold (not (is_placed (actor_in m x).place || is_leaving (actor_in m x).place)) (none_in x.act m.kernel.seats e)
-    ∙ no_tend m e xs
-  where
-    by_hold : (ids : List FlightId) (b : Bool) → ids ≡ [] → (if b && not (length ids == 0) then Some (least_of (least_tend (map (actor_in m) xs)) x.act) else least_tend (map (actor_in m) xs)) ≡ least_tend (map (actor_in m) xs)
-    by_hold [] true k = refl
-    by_hold [] false k = refl
-    by_hold (i ∷ ids) b k = absurd (cc)
-
-no_close : (all : List Grant) (n : ℕ) (gs : List Grant) → Each (λ x. x.standing ≡ Live) gs → least_closing all n gs ≡ None
+pub no_close : (all : List Grant) (n : ℕ) (gs : List Grant) → Each IsNew gs → least_closing all n gs ≡ None
 no_close all n [] k = refl
-no_close all n (x ∷ gs) k = by_standing x.standing k.0 ∙ no_close all (n + 1) gs k.1
+no_close all n (x ∷ gs) k = by_standing x.standing k.0.live ∙ no_close all (n + 1) gs k.1
   where
     by_standing : (w : Standing) → w ≡ Live → (if is_closing_grant w && (not x.close_sent && not (list_any (is_open_child n) all)) then Some n else least_closing all (n + 1) gs) ≡ least_closing all (n + 1) gs
     by_standing Live e = refl
@@ -115,14 +87,9 @@ no_close all n (x ∷ gs) k = by_standing x.standing k.0 ∙ no_close all (n + 1
     by_standing Closed e = absurd (cc)
     by_standing Done e = absurd (cc)
 
--- then it is a take
-pub next_take_only : (h : Site) (m : Machine) → IsPlain h m → each held_by m.kernel.seats ≡ [] → Each (λ x. x.standing ≡ Live) (at m).grants → next_event (at m) (places_of h m) [] ≡ next_take m
-next_take_only h m plain held live =
-    next_plain h m plain
-    ∙ ap (λ o. first_some (next_take m ∷ tend_of o ∷ close_of (least_closing (at m).grants 1 (at m).grants) ∷ [])) (no_tend m held h.homes)
-    ∙ ap (λ o. first_some (next_take m ∷ None ∷ close_of o ∷ [])) (no_close (at m).grants 1 (at m).grants live)
-    ∙ alone (next_take m)
-  where
-    alone : (o : Option Event) → first_some (o ∷ None ∷ None ∷ []) ≡ o
-    alone None = refl
-    alone (Some x) = refl
+-- the driver's next event is the machine's
+pub next_is : (h : Site) (m : Machine) → IsSound h m → IsStill h m.kernel → Each IsNew (at m).grants → driver.next_event (at m) (places_of h m) [] ≡ next_event m
+next_is h m sound still new =
+    next_plain h m still
+    ∙ ap (λ o. first_some (next_take m ∷ tend_of o ∷ close_of (least_closing (at m).grants 1 (at m).grants) ∷ [])) (tend_same h m sound)
+    ∙ ap (λ o. first_some (next_take m ∷ tend_of (least_tend m.kernel.seats) ∷ close_of o ∷ [])) (no_close (at m).grants 1 (at m).grants new ∙ sym (no_close m.kernel.grants 1 m.kernel.grants still.grants))

@@ -13,6 +13,7 @@ use Rattle.m3_machine.specs.At.{at, places_of}
 use Rattle.m3_machine.specs.Kept.{IsKept, Means, PlacesRun, Ran}
 use Rattle.m3_machine.specs.Whole.{site, opened}
 use Rattle.m3_machine.proofs.Valid.{valid_sound, opens_as}
+use Rattle.m3_machine.proofs.AuditKept.{opened_still}
 
 run_more : (s : State) (es : List Entry) (e : Entry) → IsRun s es → Says (after s es) e → IsRun s (es ++ e ∷ [])
 run_more s [] e run says = (says, tt)
@@ -39,4 +40,4 @@ more_ran h old mid new es e ran means = record {
 
 -- a machine that a setup opens is kept
 pub opened_kept : (s : SetupValue) → IsValid s → IsKept (site s) (opened s)
-opened_kept s v = record { sound = valid_sound s v; law = subst QuietInvariant (sym (opens_as s v).0) (quiet_invariant_opening s v) }
+opened_kept s v = record { sound = valid_sound s v; law = subst QuietInvariant (sym (opens_as s v).0) (quiet_invariant_opening s v); still = opened_still s }

@@ -1,5 +1,5 @@
 -- Each step that is served keeps next numbers and next tokens low, and contexts that come back have low ones.
-use Rattle.std.proofs.Common.{◌≡◌, ℕ, zero, suc, ◌+◌, ◌≤◌, Bool, true, false, List, [], ◌∷◌, get_or, length, Option, Some, None, refl, sym, subst, arith}
+use Rattle.std.proofs.Common.{◌≡◌, ℕ, suc, ◌+◌, ◌≤◌, Bool, true, false, List, [], ◌∷◌, get_or, length, Some, None, refl, sym, subst, arith}
 use Rattle.std.specs.Prelude.{◌&&◌, nat_le, ◌==◌, if◌then◌else◌}
 use Rattle.std.specs.List.{list_all}
 use Rattle.std.proofs.lemmas.Bool.Decides.{nat_tests}
@@ -8,9 +8,9 @@ use Rattle.m3_base.specs.declared.event.Event.{Event}
 use Rattle.m3_base.specs.declared.order.Order.{Order}
 use Rattle.m3_base.specs.Context.{Context, Endpoint, Free}
 use Rattle.m3_kernel.specs.Naming.{most_next, next_token_at, has_low_token, has_low_numbers}
-use Rattle.m3_kernel.specs.Parts.{Site, Parcel, tile_of, Tile}
+use Rattle.m3_kernel.specs.Parts.{Site, Parcel, tile_of}
 use Rattle.m3_kernel.specs.Kernel.{seat_of, switch, kernel_take, kernel_tend}
-use Rattle.m3_machine.specs.Machine.{Machine, Part, Is_kernel, Is_memory, Is_tile, Did, empty_tile, tile_at, of_kernel, link_at, part_at, part_step, tile_for_event, popped, took, front, mstep}
+use Rattle.m3_machine.specs.Machine.{Machine, Part, Is_kernel, Is_memory, Is_tile, Did, empty_tile, tile_at, of_kernel, link_at, part_at, part_step, tile_for_event, took, front, mstep}
 use Rattle.m3_machine.specs.Low.{HasLow, LowTile, LowParcel, LowLink, IsLow, LowComes}
 use Rattle.m3_machine.specs.Whole.{site, entry, Steps, IsServed}
 use Rattle.m3_base.specs.declared.event.Entry.{Entry}

@@ -1,5 +1,5 @@
 -- The machine's step at a take, from that of the memory or of a tile.
-use Rattle.std.proofs.Common.{◌≡◌, ℕ, ◌+◌, ◌<◌, ◌≤◌, Bool, true, false, List, [], ◌∷◌, ◌++◌, length, map, drop, get_or, set, Option, Some, None, refl, sym, ap, ◌∙◌, subst, arith}
+use Rattle.std.proofs.Common.{◌≡◌, ℕ, ◌<◌, ◌≤◌, Bool, true, false, List, [], ◌∷◌, ◌++◌, length, map, drop, get_or, set, Option, Some, None, refl, sym, ap, ◌∙◌, subst, arith}
 use Rattle.std.specs.Prelude.{if◌then◌else◌, ◌==◌}
 use Rattle.std.proofs.lemmas.List.{get_or_default, map-set, set-get_or}
 use Rattle.std.proofs.lemmas.Bool.Decides.{nat_tests}
@@ -32,7 +32,7 @@ first_is (x ∷ qs) q e = ap (λ y. y ∷ qs) (same x q e)
     same : (a b : CodeParcel) → Some a ≡ Some b → a ≡ b
     same a b w = cc
 
-parcels_popped : (links : List (List CodeParcel)) (k : ℕ) → parcels_of (popped links k) ≡ set (parcels_of links) k (map parcel_of (drop 1 (get_or links k [])))
+pub parcels_popped : (links : List (List CodeParcel)) (k : ℕ) → parcels_of (popped links k) ≡ set (parcels_of links) k (map parcel_of (drop 1 (get_or links k [])))
 parcels_popped links k = map-set (map parcel_of) links k (drop 1 (get_or links k []))
 
 -- a take of nothing
@@ -92,7 +92,7 @@ module _ (s : SetupValue) (h : Site) (kernel : Kernel) (memory : List ℕ) (tile
   at_front = parcels_at links (place from to) ∙ ap (map parcel_of) (first_is (get_or links (place from to) []) q front)
 
   -- what a part does with the parcel that it takes
-  part_steps : (part : machine.Part) (d : Deed machine.Part) → machine.part_at to old_machine ≡ part → machine.part_step (site s) part (Event.Take to from) None (Some (parcel_of q)) ≡ Some d
+  pub part_steps : (part : machine.Part) (d : Deed machine.Part) → machine.part_at to old_machine ≡ part → machine.part_step (site s) part (Event.Take to from) None (Some (parcel_of q)) ≡ Some d
       → machine.mstep (site s) old_machine (Event.Take to from) None ≡ machine.done_by to (machine.with_link from to left old_machine) (Some d)
   part_steps part d there does =
       ap (λ l. machine.done_by to (machine.with_link from to (machine.rest l) old_machine) (machine.part_step (site s) (machine.part_at to old_machine) (Event.Take to from) None (machine.front l))) at_front

@@ -1,8 +1,7 @@
 -- What a step of a part that no program makes never does: it makes no move, and sends to no tile that isn't there.
-use Rattle.std.proofs.Common.{◌≡◌, ℕ, ◌+◌, ◌<◌, Bool, true, false, List, [], ◌∷◌, ◌++◌, Option, Some, None, refl, sym, subst, ap, ◌∙◌, arith}
-use Rattle.std.specs.Prelude.{◌==◌, ◌&&◌, ◌||◌, not, nat_le, length, if◌then◌else◌}
+use Rattle.std.proofs.Common.{◌≡◌, ℕ, ◌+◌, ◌<◌, Bool, true, false, List, [], ◌∷◌, ◌++◌, Option, Some, None, refl, arith}
+use Rattle.std.specs.Prelude.{◌==◌, ◌&&◌, ◌||◌, not, length, if◌then◌else◌}
 use Rattle.std.specs.List.{list_any}
-use Rattle.m3_base.specs.declared.ids.FlightId.{FlightId}
 use Rattle.m3_base.specs.declared.command.Answer.{Answer}
 use Rattle.m3_base.specs.declared.command.Command.{Command}
 use Rattle.m3_base.specs.declared.packet.Packet.{Packet}
@@ -21,7 +20,7 @@ use Rattle.m3_base.specs.Issue.{Issued, issue}
 use Rattle.m3_base.specs.Arrive.{Arrived}
 use Rattle.m3_base.specs.Fits.{arrive_fit}
 use Rattle.m3_base.specs.Land.{bytes_at, written_at}
-use Rattle.m3_base.specs.Grants.{make_refusal, revoke_refusal, form, new_grant, change_grant}
+use Rattle.m3_base.specs.Grants.{revoke_refusal, new_grant, change_grant}
 use Rattle.m3_base.specs.Places.{target, is_here, least_closing}
 use Rattle.m3_merge.specs.Parts.{Each}
 use Rattle.m3_merge.proofs.Merged.{each_append}
@@ -31,7 +30,7 @@ use Rattle.m3_kernel.specs.Kernel as kernel
 use Rattle.m3_kernel.specs.Kernel.{Routed, kernel_take, kernel_tend, kernel_close, kernel_order}
 use Rattle.m3_machine.specs.Tile as tile
 use Rattle.m3_machine.specs.Tile.{tile_do, tile_take, stay_of, act_in}
-use Rattle.m3_machine.specs.Memory.{may_serve, served, serve, memory_take}
+use Rattle.m3_machine.specs.Memory.{may_serve, served, memory_take}
 use Rattle.m3_machine.specs.Machine.{Part, Is_kernel, Is_memory, Is_tile, part_step}
 
 abbrev pub AreTiles : List (ℕ × Parcel) → Type 0

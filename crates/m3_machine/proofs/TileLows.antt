@@ -1,9 +1,7 @@
 -- Each step of a tile or of the memory keeps next numbers and next tokens low.
-use Rattle.std.proofs.Common.{◌≡◌, ℕ, ◌+◌, Bool, true, false, List, [], ◌∷◌, ◌++◌, Option, Some, None, length}
+use Rattle.std.proofs.Common.{ℕ, ◌+◌, Bool, true, false, List, [], ◌∷◌, Option, Some, None, length}
 use Rattle.std.specs.Prelude.{if◌then◌else◌, ◌==◌, ◌&&◌}
-use Rattle.m3_merge.specs.Parts.{Each}
 use Rattle.m3_merge.proofs.Merged.{each_append}
-use Rattle.m3_base.specs.declared.ids.FlightId.{FlightId}
 use Rattle.m3_base.specs.declared.command.Answer.{Answer}
 use Rattle.m3_base.specs.declared.command.Command.{Command}
 use Rattle.m3_base.specs.declared.event.IdleWhy.{IdleWhy}
@@ -24,7 +22,7 @@ use Rattle.m3_machine.specs.Machine.{of_tile, of_memory}
 use Rattle.m3_machine.specs.Low.{HasLow, LowIn, LowTile, LowParcel}
 use Rattle.m3_machine.proofs.Numbers.{AllLow, issue_low, low_more}
 use Rattle.m3_machine.proofs.ArrivingLow.{AllArrive, arrive_low}
-use Rattle.m3_machine.proofs.Lows.{LowOut, LowDeed, low_in_more, low_data, low_new, low_closed}
+use Rattle.m3_machine.proofs.Lows.{LowDeed, low_in_more, low_data, low_new, low_closed}
 
 -- ---- commands
 

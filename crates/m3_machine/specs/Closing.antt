@@ -6,26 +6,25 @@ use Rattle.m3_base.specs.declared.packet.Fresh.{Fresh}
 use Rattle.m3_base.specs.Audit.{audit_lines}
 use Rattle.m3_base.specs.Context.{Context}
 use Rattle.m3_base.specs.State.{Grant, is_live}
-use Rattle.m3_base.specs.Setup.{facts_of}
 use Rattle.m3_endpoint.specs.Counts.{most}
 use Rattle.m3_merge.specs.Parts.{Each}
-use Rattle.m3_kernel.specs.Parts.{Site, Tile, Parcel}
+use Rattle.m3_kernel.specs.Parts.{Tile, Seat, Parcel}
 use Rattle.m3_machine.specs.declared.tally.Tally.{Tally}
-use Rattle.m3_machine.specs.Machine.{Machine}
-use Rattle.m3_machine.specs.At.{at, places_of, each, on_links, here, away, contexts_in, packets_in}
+use Rattle.m3_machine.specs.At.{at, places_of, each, on_links, here, away, held_by, contexts_in, packets_in, all_contexts, all_packets}
 use Rattle.m3_machine.specs.Tally.{last_of, held, flying, queued}
-use Rattle.m3_machine.specs.Next.{tile_lines, next_take}
+use Rattle.m3_machine.specs.Next.{tile_lines, next_event}
 use Rattle.m3_machine.specs.Kept.{IsKept}
-use Rattle.m3_machine.specs.Whole.{Whole, site, opened}
+use Rattle.m3_machine.specs.Whole.{Whole, site}
 
 -- ---- what is counted
 
--- the contexts on tiles and on links, and the packets on links
-abbrev pub contexts_on : List Tile → List (List Parcel) → List Context
-contexts_on tiles links = each here tiles ++ on_links contexts_in links
+-- the contexts on tiles, in the kernel and on links
+abbrev pub contexts_of : List Tile → List Seat → List (List Parcel) → List Context
+contexts_of tiles seats links = each here tiles ++ (each away seats ++ on_links contexts_in links)
 
-abbrev pub packets_on : List (List Parcel) → List Packet
-packets_on links = on_links packets_in links
+-- the packets in hold lists and on links
+abbrev pub packets_of : List Seat → List (List Parcel) → List Packet
+packets_of seats links = each held_by seats ++ on_links packets_in links
 
 pub record AreCounts (f : ℕ → ℕ) (counts : List ℕ) : Type 0 where
   pub size : length counts ≡ 4097
@@ -52,12 +51,7 @@ module _ (held flying queued : ℕ → ℕ) where
   credit_line g (Fresh.Send h to to_ep to_grant label size limit) = AuditLine.Credit g (held g) (flying g) (queued g) limit ∷ []
   credit_line g f = []
 
-  -- of these grants, the first of which has the number g
-  abbrev pub credit_lines_from : ℕ → List Grant → List AuditLine
-  credit_lines_from g [] = []
-  credit_lines_from g (x ∷ xs) = credit_line g x.fresh ++ credit_lines_from (g + 1) xs
-
-  -- of those of them that are live
+  -- of the live ones of these grants, the first of which has the number g
   abbrev pub live_lines_from : ℕ → List Grant → List AuditLine
   live_lines_from g [] = []
   live_lines_from g (x ∷ xs) = (if is_live x.standing then credit_line g x.fresh else []) ++ live_lines_from (g + 1) xs
@@ -67,11 +61,11 @@ abbrev pub tally_line : Tally → ℕ → Fresh → List AuditLine
 tally_line t = credit_line (λ g. slice_index_or t.held.items g 0) (λ g. slice_index_or t.flying.items g 0) (λ g. slice_index_or t.queued.items g 0)
 
 abbrev pub tally_lines : Tally → ℕ → List Grant → List AuditLine
-tally_lines t = credit_lines_from (λ g. slice_index_or t.held.items g 0) (λ g. slice_index_or t.flying.items g 0) (λ g. slice_index_or t.queued.items g 0)
+tally_lines t = live_lines_from (λ g. slice_index_or t.held.items g 0) (λ g. slice_index_or t.flying.items g 0) (λ g. slice_index_or t.queued.items g 0)
 
-abbrev pub line_at : Tally → ℕ → Option Grant → List AuditLine
-line_at t g None = []
-line_at t g (Some x) = tally_line t g x.fresh
+abbrev pub live_line : Tally → ℕ → Option Grant → List AuditLine
+live_line t g None = []
+live_line t g (Some x) = if is_live x.standing then tally_line t g x.fresh else []
 
 -- as these contexts and these packets have them
 module _ (cs : List Context) (ps : List Packet) where
@@ -84,44 +78,27 @@ module _ (cs : List Context) (ps : List Packet) where
   abbrev pub queued_count : ℕ → ℕ
   queued_count g = min most (queued g cs)
 
-  abbrev pub credit_lines : List Grant → List AuditLine
-  credit_lines = credit_lines_from held_count flying_count queued_count 1
-
   abbrev pub live_lines : List Grant → List AuditLine
   live_lines = live_lines_from held_count flying_count queued_count 1
 
 -- ---- all lines
 
--- the packets on all links
-abbrev pub flights : Machine → ℕ
-flights m = length (on_links packets_in m.links)
-
 abbrev pub lines : Whole → List AuditLine
 lines w =
-    credit_lines (contexts_on w.machine.tiles w.machine.links) (packets_on w.machine.links) (facts_of w.setup).grants
+    live_lines (all_contexts w.machine) (all_packets w.machine) w.machine.kernel.grants
     ++ tile_lines w.setup.tiles w.machine.tiles
-    ++ (AuditLine.Flights (min most (flights w.machine)) ∷ [])
-    ++ AuditLine.Quiet (is_none (next_take w.machine)) ∷ []
+    ++ (AuditLine.Flights (min most (length (all_packets w.machine))) ∷ [])
+    ++ AuditLine.Quiet (is_none (next_event w.machine)) ∷ []
 
 -- ---- the lines that the ideal state and the places have
-
--- no activity has a program, and no Yield was taken
-pub record IsPlain (h : Site) (m : Machine) : Type 0 where
-  pub programs : Each (λ x. x.has_program ≡ false) h.homes
-  pub yielded : (t : ℕ) → slice_index_or m.kernel.yielded t false ≡ false
 
 -- a grant whose Close was sent is not live
 abbrev pub SentAreShut : List Grant → Type 0
 SentAreShut gs = Each (λ x. x.close_sent ≡ true → is_live x.standing ≡ false) gs
 
--- the kernel has no context
-abbrev pub NobodyAway : Machine → Type 0
-NobodyAway m = each away m.kernel.seats ≡ []
-
--- a kept machine whose kernel has no context, with so few flights that they are counted
+-- a kept machine with so few flights that they are counted
 pub record IsCounted (w : Whole) : Type 0 where
   pub kept : IsKept (site w.setup) w.machine
-  pub nobody : NobodyAway (opened w.setup)
   pub flights_few : length (at w.machine).flights ≤ most
 
 abbrev pub ideal_lines : Whole → List AuditLine

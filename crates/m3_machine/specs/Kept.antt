@@ -1,23 +1,38 @@
 -- What holds of the machine between any two steps, and what a step of it means.
-use Rattle.std.specs.Prelude.{◌≡◌, ◌<◌, List, [], ◌∷◌}
+use Rattle.std.specs.Prelude.{◌≡◌, ℕ, ◌<◌, false, List, [], ◌∷◌}
 use Rattle.m3_base.specs.declared.event.Event.{Event}
 use Rattle.m3_base.specs.declared.event.Entry.{Entry}
 use Rattle.m3_base.specs.declared.order.Order.{Order}
 use Rattle.m3_base.specs.Entries.{Says, next_state, after, IsRun}
-use Rattle.m3_base.specs.State.{State}
+use Rattle.m3_base.specs.State.{State, Live, Grant}
+use Rattle.m3_merge.specs.Parts.{Each}
 use Rattle.m3_base.specs.Places.{Places}
 use Rattle.m3_base.specs.PlaceSteps.{IsPlaceStep}
 use Rattle.m3_laws.proofs.Quiets.{QuietInvariant}
-use Rattle.m3_kernel.specs.Parts.{Site}
+use Rattle.m3_kernel.specs.Parts.{Site, Kernel}
+use Rattle.m3_kernel.specs.Kernel.{ready_at}
 use Rattle.m3_machine.specs.Machine.{Machine}
 use Rattle.m3_machine.specs.At.{at, places_of}
 use Rattle.m3_machine.specs.Moving.{MovesByEntry}
 use Rattle.m3_machine.specs.Sound.{IsSound}
 
--- its places are in order, and its ideal state keeps the ideal machine's invariant
+-- a grant that stands as it was made
+pub record IsNew (x : Grant) : Type 0 where
+  pub live : x.standing ≡ Live
+  pub unsent : x.close_sent ≡ false
+
+-- no activity has a program, so none is ready, and every grant stands as it was made
+pub record IsStill (h : Site) (k : Kernel) : Type 0 where
+  pub programs : Each (λ x. x.has_program ≡ false) h.homes
+  pub ready : (t : ℕ) → ready_at t k ≡ []
+  pub grants : Each IsNew k.grants
+
+-- its places are in order, its ideal state keeps the ideal machine's invariant, and its kernel was given no order but
+-- switches
 pub record IsKept (h : Site) (m : Machine) : Type 0 where
   pub sound : IsSound h m
   pub law : QuietInvariant (at m)
+  pub still : IsStill h m.kernel
 
 -- the tiles of a take, and of a switch
 abbrev pub IsWithin : Event → Type 0

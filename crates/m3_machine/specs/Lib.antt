@@ -15,8 +15,9 @@ pub mod MemoryView
 pub mod Progress
 pub mod Aims
 pub mod Table
-pub mod Seated
 pub mod Next
 pub mod Closing
 pub mod Tally
 pub mod Records
+pub mod Sends
+pub mod Seated

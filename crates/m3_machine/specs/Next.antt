@@ -1,9 +1,11 @@
--- What the driver takes next, and the closing lines on tiles, of a machine.
-use Rattle.std.specs.Prelude.{ℕ, zero, suc, ◌+◌, ◌-◌, List, [], ◌∷◌, map, slice_index_or, Option, Some, None}
+-- What the driver does next, and the closing lines on tiles, of a machine.
+use Rattle.std.specs.Prelude.{ℕ, zero, suc, ◌+◌, ◌-◌, Bool, not, ◌&&◌, ◌||◌, ◌==◌, List, [], ◌∷◌, length, map, slice_index_or, Option, Some, None, if◌then◌else◌}
 use Rattle.m3_base.specs.declared.event.Event.{Event}
 use Rattle.m3_base.specs.declared.journal.AuditLine.{AuditLine}
-use Rattle.m3_base.specs.Driver.{tiles, first_for}
-use Rattle.m3_kernel.specs.Parts.{Tile}
+use Rattle.m3_base.specs.Driver.{tiles, first_for, first_some, least_of, tend_of, close_of}
+use Rattle.m3_base.specs.Places.{least_closing}
+use Rattle.m3_kernel.specs.Parts.{Tile, Seat, Kernel}
+use Rattle.m3_kernel.specs.Kernel.{is_placed_seat, is_leaving_seat}
 use Rattle.m3_link.specs.Links.{place, list_at}
 use Rattle.m3_machine.specs.Machine.{Machine}
 use Rattle.m3_machine.specs.At.{current_act}
@@ -26,6 +28,22 @@ module _ {X : Type 0} where
 
 abbrev pub next_take : Machine → Option Event
 next_take m = next_take_on m.links
+
+-- the activity is away, and something is held for it
+abbrev pub can_tend : Seat → Bool
+can_tend x = not (is_placed_seat x.seating || is_leaving_seat x.seating) && not (length x.hold == 0)
+
+abbrev pub least_tend : List Seat → Option ℕ
+least_tend [] = None
+least_tend (x ∷ xs) = if can_tend x then Some (least_of (least_tend xs) x.act) else least_tend xs
+
+-- then the tend of the least activity that can be tended, then a close where a grant is due
+abbrev pub next_of : Option Event → Kernel → Option Event
+next_of take k = first_some (take ∷ tend_of (least_tend k.seats) ∷ close_of (least_closing k.grants 1 k.grants) ∷ [])
+
+-- what the driver does next, where no program makes a move, no Yield was taken and no order is left
+abbrev pub next_event : Machine → Option Event
+next_event m = next_of (next_take m) m.kernel
 
 -- so many tiles from t on, by the current activity of each tile
 abbrev pub tile_lines_from : ℕ → ℕ → List (Option ℕ) → List AuditLine

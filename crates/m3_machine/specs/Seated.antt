@@ -1,12 +1,29 @@
--- The tiles of a machine at opening, as homes take their contexts from a table.
-use Rattle.std.specs.Prelude.{List, [], ◌∷◌, Option, None, slice_index_or, slice_set}
+-- The tiles and the kernel of a machine at opening, as homes take their contexts from a table.
+use Rattle.std.specs.Prelude.{◌≡◌, List, length, Option, None, Some}
 use Rattle.m3_base.specs.Context.{Context}
-use Rattle.m3_kernel.specs.Parts.{Home, Tile}
-use Rattle.m3_machine.specs.Machine.{empty_tile}
-use Rattle.m3_machine.specs.TileView.{seated_with}
+use Rattle.m3_base.specs.Opening.{opening}
+use Rattle.m3_base.specs.Setup.{SetupValue, IsValid, facts_of}
+use Rattle.m3_kernel.specs.Parts.{Tile}
+use Rattle.m3_kernel.specs.Readers.{new_kernel}
+use Rattle.m3_kernel.specs.States.{KernelAt}
+use Rattle.m3_machine.specs.Table.{HasContexts}
+use Rattle.m3_machine.specs.Whole.{site, opened}
 
--- each of these homes is seated at its tile, with what the table has for it, which then leaves the table
-abbrev pub seated_tiles : List (Option Context) → List Tile → List Home → List Tile
-seated_tiles table tiles [] = tiles
-seated_tiles table tiles (x ∷ xs) =
-    seated_tiles (slice_set table x.act None) (slice_set tiles x.tile (seated_with x.act (slice_index_or table x.act None) (slice_index_or tiles x.tile (empty_tile x.tile)))) xs
+-- what the kernel gets: nothing of the first activity of a tile
+abbrev pub rests_with : Option Context → Option Context → Option Context
+rests_with None c = None
+rests_with (Some x) c = c
+
+-- a kernel without seats, and the table of the contexts of the opening
+pub record IsOpening (s : SetupValue) (k : KernelAt) (table : List (Option Context)) : Type 0 where
+  pub valid : IsValid s
+  pub site : k.site ≡ site s
+  pub kernel : k.kernel ≡ new_kernel (facts_of s).grants
+  pub contexts : HasContexts table (opening s.memory s.lines).contexts
+
+-- the kernel and the tiles are those of the machine that the setup opens
+pub record IsOpened (s : SetupValue) (k : KernelAt) (seated : List Tile) : Type 0 where
+  pub site : k.site ≡ site s
+  pub kernel : k.kernel ≡ (opened s).kernel
+  pub tiles : seated ≡ (opened s).tiles
+  pub count : length seated ≡ 16

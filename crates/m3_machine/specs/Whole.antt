@@ -1,20 +1,17 @@
 -- A machine with its setup and its journal, and what one step of it is.
-use Rattle.std.specs.Prelude.{◌≡◌, ℕ, ◌+◌, ◌*◌, ◌<◌, ◌≤◌, true, List, [], ◌∷◌, ◌++◌, length, slice_index_or, slice_set, Option, Some, None}
+use Rattle.std.specs.Prelude.{◌≡◌, ℕ, ◌+◌, ◌*◌, ◌≤◌, true, List, [], ◌∷◌, ◌++◌, length, slice_index_or, slice_set, Some, None}
 use Rattle.m3_base.specs.declared.event.Event.{Event}
 use Rattle.m3_base.specs.declared.order.Order.{Order}
 use Rattle.m3_base.specs.declared.event.Outcome.{Outcome}
 use Rattle.m3_base.specs.declared.event.Entry.{Entry}
-use Rattle.m3_base.specs.Flight.{name_of}
 use Rattle.m3_base.specs.Setup.{SetupValue, IsValid}
 use Rattle.m3_machine.specs.declared.machine.Machine.TheInside.{Inside}
-use Rattle.m3_kernel.specs.Parts.{Site, tile_of, Parcel, Tile, Kernel}
+use Rattle.m3_kernel.specs.Parts.{Site, Parcel, Tile, Kernel}
 use Rattle.m3_kernel.specs.Naming.{is_home}
-use Rattle.m3_core.specs.declared.parcel.Emit.{Emit}
 use Rattle.m3_core.specs.declared.parcel.Parcel.{Parcel as CodeParcel}
 use Rattle.m3_kernel.specs.Parcels.{parcels_of}
-use Rattle.m3_link.specs.Links.{place, spare_at}
 use Rattle.m3_machine.specs.Low.{IsLow, LowComes}
-use Rattle.m3_machine.specs.Machine.{Machine, link_at, mstep, opened_machine}
+use Rattle.m3_machine.specs.Machine.{Machine, mstep, opened_machine}
 use Rattle.m3_kernel.specs.Sites.{site_of}
 
 pub record Whole : Type 0 where
@@ -35,17 +32,16 @@ opened_whole s = record { setup = s; machine = opened s; entries = [] }
 abbrev pub machine_of : Kernel → List ℕ → List Tile → List (List CodeParcel) → Machine
 machine_of kernel memory tiles lists = record { kernel = kernel; memory = memory; tiles = tiles; links = parcels_of lists }
 
--- the kernel is as at opening
 abbrev pub whole_of : Inside → Whole
 whole_of m =
     record {
       setup = m.journal.setup;
-      machine = machine_of (opened m.journal.setup).kernel m.memory m.tiles.items m.wires.lists;
+      machine = machine_of m.kernel.kernel m.memory m.tiles.items m.wires.lists;
       entries = m.journal.entries.items;
     }
 
 pub record IsWhole (m : Inside) : Type 0 where
-  pub site : m.site ≡ site m.journal.setup
+  pub site : m.kernel.site ≡ site m.journal.setup
   pub valid : IsValid m.journal.setup
   pub tiles : length m.tiles.items ≡ 16
   pub entries : length m.journal.entries.items ≤ 2097152
@@ -76,11 +72,13 @@ abbrev pub HasParcel : List Parcel → Type 0
 HasParcel [] = ⊥
 HasParcel (q ∷ qs) = Unit {0}
 
--- the event is no command and no take, or takes a parcel that is for the kernel
-abbrev pub IsUnserved : Machine → Event → Type 0
-IsUnserved m (Event.Do a c) = ⊥
-IsUnserved m (Event.Take to from) = (to ≡ 0) × HasParcel (link_at from to m)
-IsUnserved m event = Unit {0}
+-- the event is a turn, a close, a grant, a revoke or a file event
+abbrev pub IsUnserved : Event → Type 0
+IsUnserved (Event.Do a c) = ⊥
+IsUnserved (Event.Take to from) = ⊥
+IsUnserved (Event.Tend a) = ⊥
+IsUnserved (Event.Order (Order.Switch t a)) = ⊥
+IsUnserved event = Unit {0}
 
 -- the events that a machine without programs makes whose grants stay as they are: commands, takes, tends and switches
 abbrev pub IsServed : Event → Type 0
@@ -96,18 +94,3 @@ IsServed event = ⊥
 abbrev pub out_links : ℕ → List (ℕ × Parcel) → List (List Parcel) → List (List Parcel)
 out_links from [] links = links
 out_links from (x ∷ xs) links = out_links from xs (slice_set links (16 * from + x.0) (slice_index_or links (16 * from + x.0) [] ++ x.1 ∷ []))
-
-abbrev pub HasRoomFor : List ℕ → ℕ → Option Emit → Type 0
-HasRoomFor spare from None = Unit {0}
-HasRoomFor spare from (Some e) = 0 < spare_at spare (place from e.to)
-
--- ---- a take
-
--- where the answer to a parcel goes
-abbrev pub back_of : Site → Option CodeParcel → ℕ
-back_of h (Some (CodeParcel.Data p)) = tile_of h (name_of p).issuer
-back_of h q = 0
-
--- a tile that takes this parcel has room for what it sends
-abbrev pub RoomToTake : Site → List ℕ → ℕ → Option CodeParcel → Type 0
-RoomToTake h spare to q = (0 < spare_at spare (place to (back_of h q))) × (0 < spare_at spare (place to 0))

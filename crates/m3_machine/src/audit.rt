@@ -1,39 +1,51 @@
-//! The lines that close a journal, on credits and on tiles.
+//! The lines that close a journal, on credits, on tiles and on flights.
 
-ghost use Rattle.std.specs.Prelude.{◌≡◌, ◌<◌, ◌≤◌, ◌++◌, length, IfOk, OnOk, option_to_list};
-ghost use Rattle.m3_base.specs.Setup.{IsValid, facts_of};
+ghost use Rattle.std.specs.Prelude.{◌≡◌, ◌≤◌, ◌+◌, ◌++◌, length, min, IfOk, OnOk, option_to_list};
 ghost use Rattle.m3_base.specs.State.{grant_in};
 ghost use Rattle.m3_kernel.specs.Parcels.{parcels_of};
-ghost use Rattle.m3_machine.specs.Closing.{IsSized, IsTally, line_at, credit_lines, contexts_on, packets_on};
+ghost use Rattle.m3_kernel.specs.Seats.{seat_value, seats_of};
+ghost use Rattle.m3_link.specs.Links.{data_on};
+ghost use Rattle.m3_machine.specs.At.{each, held_by};
+ghost use Rattle.m3_machine.specs.Closing.{IsSized, IsTally, live_line, live_lines, contexts_of, packets_of};
 ghost use Rattle.m3_machine.specs.Next.{tile_lines};
 
 use crate::roster::roster;
 use crate::tally::Tally;
 use crate::tile::TilePart;
-use m3_base::ids::{ActId, GrantId, TileId};
+use m3_base::ids::{GrantId, TileId};
 use m3_base::journal::AuditLine;
 use m3_base::packet::Fresh;
-use m3_base::setup::Setup;
+use m3_grants::grants::Grants;
+use m3_kernel::seat::Seat;
 use m3_link::wires::Wires;
 use std::alloc::{AllocError, Global};
 
 /// The credits of all contexts and packets, counted.
-fn counted(alloc: Global, tiles: &[TilePart], links: &Wires) -> Result<Tally, AllocError>
-    ensures { IfOk result (IsTally (contexts_on tiles.now (parcels_of links.now.lists)) (packets_on (parcels_of links.now.lists))) }
+fn counted(
+    alloc: Global,
+    tiles: &[TilePart],
+    seats: &[Seat],
+    links: &Wires,
+) -> Result<Tally, AllocError>
+    ensures { IfOk result (IsTally (contexts_of tiles.now (seats_of seats.now) (parcels_of links.now.lists)) (packets_of (seats_of seats.now) (parcels_of links.now.lists))) }
 {
-    let roster = roster(alloc, tiles, links)?;
+    let roster = roster(alloc, tiles, seats, links)?;
     let mut tally = Tally::new(alloc)?;
     tally.tiles(tiles);
+    tally.seats(&roster, seats);
     tally.links(&roster, links.all());
     Ok(tally)
 }
 
-/// The line of the grant of this number, where the setup has a send grant of it.
-fn grant_line(setup: &Setup, tally: &Tally, grant: GrantId) -> Option<AuditLine>
+/// The line of the grant of this number, where it is a live send grant.
+fn grant_line(grants: &Grants, tally: &Tally, grant: GrantId) -> Option<AuditLine>
     requires { IsSized tally.now }
-    ensures { option_to_list result ≡ line_at tally.now grant (grant_in (facts_of setup.now).grants grant) }
+    ensures { option_to_list result ≡ live_line tally.now grant (grant_in grants.now.grants grant) }
 {
-    let Fresh::Send { limit, .. } = setup.fresh(grant)? else {
+    if !grants.live(grant) {
+        return None;
+    }
+    let Fresh::Send { limit, .. } = grants.fresh(grant)? else {
         return None;
     };
     let at = usize::from(grant.number());
@@ -49,21 +61,44 @@ fn grant_line(setup: &Setup, tally: &Tally, grant: GrantId) -> Option<AuditLine>
 /// Adds the lines of the send grants.
 pub fn credit_lines(
     alloc: Global,
-    setup: &Setup,
+    grants: &Grants,
     tiles: &[TilePart],
+    seats: &[Seat],
     links: &Wires,
     lines: &mut Vec<AuditLine>,
 ) -> Result<(), AllocError>
-    requires { IsValid setup.now }
-    ensures { OnOk result (lines.new.items ≡ lines.old.items ++ credit_lines (contexts_on tiles.now (parcels_of links.now.lists)) (packets_on (parcels_of links.now.lists)) (facts_of setup.now).grants) }
+    ensures { OnOk result (lines.new.items ≡ lines.old.items ++ live_lines (contexts_of tiles.now (seats_of seats.now) (parcels_of links.now.lists)) (packets_of (seats_of seats.now) (parcels_of links.now.lists)) grants.now.grants) }
 {
-    let tally = counted(alloc, tiles, links)?;
-    for number in 1..4097u16 {
-        if let Some(line) = grant_line(setup, &tally, GrantId::new(number)) {
+    let tally = counted(alloc, tiles, seats, links)?;
+    let count = grants.count();
+    for number in 1..count + 1 {
+        if let Some(line) = grant_line(grants, &tally, GrantId::new(number)) {
             lines.push(line)?;
         }
     }
     Ok(())
+}
+
+/// How many packets are held for the seat's activity.
+fn held(seat: &Seat) -> usize
+    ensures { result ≡ length (held_by (seat_value seat.now)) }
+{
+    seat.hold().len()
+}
+
+/// How many packets are in hold lists and on links, up to the largest number.
+pub fn flights(seats: &[Seat], links: &Wires) -> u32
+    ensures { result ≡ min 4294967295 (length (each held_by (seats_of seats.now)) + data_on links.now.lists) }
+{
+    let mut count = links.flights() as usize;
+    for seat in seats {
+        count = count.saturating_add(held(seat));
+    }
+    if count < u32::MAX as usize {
+        count as u32
+    } else {
+        u32::MAX
+    }
 }
 
 /// Adds the lines of the tiles from 2 on.

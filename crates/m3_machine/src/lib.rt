@@ -9,6 +9,7 @@ mod next;
 mod opening;
 mod returning;
 mod roster;
+mod sends;
 mod shown;
 mod tally;
 pub mod tile;

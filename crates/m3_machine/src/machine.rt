@@ -1,29 +1,30 @@
 //! The machine: its step and its journal.
 
-ghost use Rattle.std.specs.Prelude.{◌≡◌, ◌≢◌, ◌↔◌, ◌<◌, ◌≤◌, ◌++◌, ◌∷◌, [], true, length, OnOk, OnErr, IfOk, IfErr, Err, vec_len, vec_capacity};
+ghost use Rattle.std.specs.Prelude.{◌≡◌, ◌≢◌, ◌↔◌, ◌<◌, ◌≤◌, [], true, length, OnOk, OnErr, IfOk, IfErr, Err};
 ghost use Rattle.m3_base.specs.declared.event.Event.{Event};
+ghost use Rattle.m3_base.specs.declared.order.Order.{Order};
 ghost use Rattle.m3_base.specs.Setup.{IsValid};
 ghost use Rattle.m3_machine.specs.declared.machine.StepRefusal.{StepRefusal};
-ghost use Rattle.m3_link.specs.Links.{place, list_at, first, pushed, spare_at};
 ghost use Rattle.m3_kernel.specs.Naming.{is_home};
-ghost use Rattle.m3_machine.specs.Next.{next_take};
+ghost use Rattle.m3_machine.specs.Next.{next_event};
 ghost use Rattle.m3_machine.specs.Closing.{IsCounted, lines, ideal_lines};
-ghost use Rattle.m3_kernel.specs.Parcels.{parcels_of, out_of};
 ghost use Rattle.m3_machine.specs.Machine.{link_at};
-ghost use Rattle.m3_machine.specs.Whole.{site, entry, opened_whole, out_links, back_of, HasParcel, HasRoomFor, RoomToTake, IsOfSetup, IsServed, IsUnserved, Steps};
+ghost use Rattle.m3_machine.specs.Whole.{site, opened_whole, HasParcel, IsOfSetup, IsServed, IsUnserved, Steps};
 
-use crate::audit::{credit_lines, tile_lines};
+use crate::audit::{credit_lines, flights, tile_lines};
 use crate::memory::MemPart;
-use crate::next::next_take;
+use crate::next::next_event;
 use crate::opening::{contexts, seated};
+use crate::sends::{add, put_out, put_out_both, room_at_kernel, room_to_take};
 use crate::tile::{TileDid, TilePart, idle};
 use m3_base::command::Command;
-use m3_base::event::{Entry, Event, IdleWhy, Outcome};
+use m3_base::event::{Event, IdleWhy};
 use m3_base::ids::{ActId, TileId};
 use m3_base::journal::{Audit, AuditLine, Journal};
+use m3_base::order::Order;
 use m3_base::setup::Setup;
-use m3_core::parcel::{Emit, Parcel};
-use m3_kernel::site::Site;
+use m3_kernel::done::Done;
+use m3_kernel::kernel::Kernel;
 use m3_link::wires::Wires;
 use std::alloc::{AllocError, Global};
 use std::marker::Model;
@@ -31,7 +32,7 @@ use std::marker::Model;
 /// A machine of tiles with its links and its journal.
 #[derive(Drop)]
 pub struct Machine {
-    site: Site,
+    kernel: Kernel,
     memory: MemPart,
     tiles: Vec<TilePart>,
     wires: Wires,
@@ -60,7 +61,7 @@ pub enum StepRefusal {
     Spent,
     /// No memory was left for the entry or for what it moves.
     NoMemory,
-    /// The event is no command and no take, or takes a parcel that is for the kernel, which takes none yet.
+    /// The event is a turn, a close, a grant, a revoke or a file event, none of which is served yet.
     Unserved,
 }
 
@@ -69,56 +70,6 @@ impl From<AllocError> for StepRefusal {
 
     fn from(_error: AllocError) -> StepRefusal {
         StepRefusal::NoMemory
-    }
-}
-
-/// A parcel joins its link, which has room for it.
-fn push(wires: &mut Wires, from: TileId, emit: Emit)
-    requires { 0 < spare_at wires.old.spare (place from emit.to) }
-    ensures { wires.new.lists ≡ pushed wires.old.lists (place from emit.to) emit.parcel }
-{
-    wires.push(from, emit.to, emit.parcel);
-}
-
-/// What a part sends joins its link, which has room for it.
-fn put_out(wires: &mut Wires, from: TileId, emit: Option<Emit>)
-    requires { HasRoomFor wires.old.spare from emit }
-    ensures { parcels_of wires.new.lists ≡ out_links from (out_of emit) (parcels_of wires.old.lists) }
-{
-    match emit {
-        None => {}
-        Some(emit) => push(wires, from, emit),
-    }
-}
-
-/// The tile that the answer to the front of this link goes to.
-fn back(site: &Site, wires: &Wires, from: TileId, to: TileId) -> TileId
-    ensures { result ≡ back_of site.now (first (list_at wires.now.lists (place from to))) }
-{
-    match wires.get(from, to, 0) {
-        Some(Parcel::Data(packet)) => site.tile_of(packet.id().issuer),
-        _ => TileId::new(0),
-    }
-}
-
-/// Makes room for what the memory or a tile sends as it takes the front of this link.
-fn room_to_take(site: &Site, wires: &mut Wires, from: TileId, to: TileId) -> Result<(), AllocError>
-    ensures lists { wires.new.lists ≡ wires.old.lists }
-    ensures room { OnOk result (RoomToTake site.now wires.new.spare to (first (list_at wires.old.lists (place from to)))) }
-{
-    let back = back(site, wires, from, to);
-    wires.reserve(to, back)?;
-    wires.reserve(to, TileId::new(0))
-}
-
-/// An entry joins the journal, which has room for it.
-fn add(entries: &mut Vec<Entry>, event: Event, outcome: Outcome)
-    requires { vec_len entries.old < vec_capacity entries.old }
-    ensures { entries.new.items ≡ entries.old.items ++ entry event outcome ∷ [] }
-{
-    match entries.push(Entry { event, outcome }) {
-        Ok(()) => {}
-        Err(_) => unreachable!(),
     }
 }
 
@@ -131,9 +82,9 @@ impl Machine {
         ensures entries { IfOk result (λ m. m.entries ≡ []) }
         ensures whole { IfOk result (λ m. m ≡ opened_whole setup) }
     {
-        let site = Site::new(alloc, setup.memory(), setup.lines())?;
+        let mut kernel = Kernel::new(alloc, &setup)?;
         let mut table = contexts(alloc, &setup)?;
-        let tiles = seated(alloc, &site, &mut table)?;
+        let tiles = seated(alloc, &setup, &mut kernel, &mut table)?;
         let memory = MemPart::new(alloc, setup.memory())?;
         let wires = Wires::new(alloc)?;
         let journal = Journal {
@@ -141,7 +92,7 @@ impl Machine {
             entries: Vec::new(alloc),
         };
         Ok(Machine {
-            site,
+            kernel,
             memory,
             tiles,
             wires,
@@ -165,7 +116,7 @@ impl Machine {
         ensures served { OnOk result (IsServed event) }
         ensures err { OnErr result (self.new ≡ self.old) }
         ensures spent { result ≡ Err StepRefusal.Spent ↔ length self.old.entries ≡ 2097152 }
-        ensures unserved { result ≡ Err StepRefusal.Unserved → IsUnserved self.old.machine event }
+        ensures unserved { result ≡ Err StepRefusal.Unserved → IsUnserved event }
     {
         if self.journal.entries.len() == MOST_ENTRIES {
             return Err(StepRefusal::Spent);
@@ -173,6 +124,8 @@ impl Machine {
         match event {
             Event::Do { act, command } => self.command(alloc, act, command),
             Event::Take { to, from } => self.take(to, from),
+            Event::Tend(act) => self.tend(alloc, act),
+            Event::Order(order) => self.order(&order),
             _ => Err(StepRefusal::Unserved),
         }
     }
@@ -184,7 +137,7 @@ impl Machine {
         ensures err { OnErr result (self.new ≡ self.old) }
         ensures memory { IfErr result (λ e. e ≡ StepRefusal.NoMemory) }
     {
-        let Some(tile) = self.site.home(act) else {
+        let Some(tile) = self.kernel.site().home(act) else {
             unreachable!();
         };
         let at = usize::from(tile.number());
@@ -193,9 +146,9 @@ impl Machine {
             command: command.copy(alloc)?,
         };
         self.journal.entries.reserve(1)?;
-        let to = self.tiles[at].aim(&self.site, &command);
+        let to = self.tiles[at].aim(self.kernel.site(), &command);
         self.wires.reserve(tile, to)?;
-        let did = self.tiles[at].command(alloc, &self.site, act, command)?;
+        let did = self.tiles[at].command(alloc, self.kernel.site(), act, command)?;
         let TileDid { outcome, emit } = did;
         put_out(&mut self.wires, tile, emit);
         add(&mut self.journal.entries, event, outcome);
@@ -206,14 +159,13 @@ impl Machine {
         requires room { length self.old.entries < 2097152 }
         ensures ok { OnOk result (Steps self.old (Event.Take to from) self.new) }
         ensures err { OnErr result (self.new ≡ self.old) }
-        ensures memory { IfErr result (λ e. e ≢ StepRefusal.Spent) }
-        ensures unserved { result ≡ Err StepRefusal.Unserved → IsUnserved self.old.machine (Event.Take to from) }
+        ensures memory { IfErr result (λ e. e ≡ StepRefusal.NoMemory) }
     {
         if self.wires.is_empty(from, to) {
             return self.take_nothing(to, from);
         }
         match to.number() {
-            0 => Err(StepRefusal::Unserved),
+            0 => self.take_at_kernel(from),
             1 => self.take_at_memory(from),
             _ => self.take_at_tile(to, from),
         }
@@ -233,6 +185,38 @@ impl Machine {
         Ok(())
     }
 
+    /// The kernel takes the front of its link. Where it has no memory for it, the parcel is the front again.
+    fn take_at_kernel(&mut self, from: TileId) -> Result<(), StepRefusal>
+        requires room { length self.old.entries < 2097152 }
+        requires some { HasParcel (link_at from 0 self.old.machine) }
+        ensures ok { OnOk result (Steps self.old (Event.Take 0 from) self.new) }
+        ensures err { OnErr result (self.new ≡ self.old) }
+        ensures memory { IfErr result (λ e. e ≡ StepRefusal.NoMemory) }
+    {
+        let to = TileId::new(0);
+        self.journal.entries.reserve(1)?;
+        room_at_kernel(self.kernel.site(), &mut self.wires, from)?;
+        match self.wires.take(from, to) {
+            None => unreachable!(),
+            Some(parcel) => match self.kernel.take(parcel) {
+                Ok(done) => {
+                    let Done {
+                        outcome,
+                        first,
+                        second,
+                    } = done;
+                    put_out_both(&mut self.wires, to, first, second);
+                    add(&mut self.journal.entries, Event::Take { to, from }, outcome);
+                    Ok(())
+                }
+                Err((parcel, _)) => {
+                    self.wires.put_back(from, to, parcel);
+                    Err(StepRefusal::NoMemory)
+                }
+            },
+        }
+    }
+
     /// The memory takes the front of its link.
     fn take_at_memory(&mut self, from: TileId) -> Result<(), StepRefusal>
         requires room { length self.old.entries < 2097152 }
@@ -243,11 +227,11 @@ impl Machine {
     {
         let to = TileId::new(1);
         self.journal.entries.reserve(1)?;
-        room_to_take(&self.site, &mut self.wires, from, to)?;
+        room_to_take(self.kernel.site(), &mut self.wires, from, to)?;
         match self.wires.take(from, to) {
             None => unreachable!(),
             Some(parcel) => {
-                let TileDid { outcome, emit } = self.memory.take(&self.site, parcel);
+                let TileDid { outcome, emit } = self.memory.take(self.kernel.site(), parcel);
                 put_out(&mut self.wires, to, emit);
                 add(&mut self.journal.entries, Event::Take { to, from }, outcome);
                 Ok(())
@@ -266,11 +250,11 @@ impl Machine {
     {
         let at = usize::from(to.number());
         self.journal.entries.reserve(1)?;
-        room_to_take(&self.site, &mut self.wires, from, to)?;
+        room_to_take(self.kernel.site(), &mut self.wires, from, to)?;
         match self.wires.take(from, to) {
             None => unreachable!(),
             Some(parcel) => {
-                let TileDid { outcome, emit } = self.tiles[at].take(&self.site, parcel);
+                let TileDid { outcome, emit } = self.tiles[at].take(self.kernel.site(), parcel);
                 put_out(&mut self.wires, to, emit);
                 add(&mut self.journal.entries, Event::Take { to, from }, outcome);
                 Ok(())
@@ -278,12 +262,74 @@ impl Machine {
         }
     }
 
-    /// The event that the driver makes next, where there is one: the take with the least receiving tile, then the least
-    /// sending tile, among links that aren't empty.
-    pub fn next(&self) -> Option<Event>
-        ensures { result ≡ next_take self.now.machine }
+    /// The front of an activity's hold list is applied to its context.
+    fn tend(&mut self, alloc: Global, act: ActId) -> Result<(), StepRefusal>
+        requires room { length self.old.entries < 2097152 }
+        ensures ok { OnOk result (Steps self.old (Event.Tend act) self.new) }
+        ensures err { OnErr result (self.new ≡ self.old) }
+        ensures memory { IfErr result (λ e. e ≡ StepRefusal.NoMemory) }
     {
-        next_take(&self.wires)
+        let from = TileId::new(0);
+        let aim = self.kernel.tend_aim(act);
+        let home = self.kernel.site().tile_of(act.number());
+        self.journal.entries.reserve(1)?;
+        self.wires.reserve(from, aim)?;
+        self.wires.reserve(from, from)?;
+        self.wires.reserve(from, home)?;
+        let done = self.kernel.tend(alloc, act)?;
+        let Done {
+            outcome,
+            first,
+            second,
+        } = done;
+        put_out_both(&mut self.wires, from, first, second);
+        add(&mut self.journal.entries, Event::Tend(act), outcome);
+        Ok(())
+    }
+
+    /// An order of the kernel; of these switches alone are served.
+    fn order(&mut self, order: &Order) -> Result<(), StepRefusal>
+        requires room { length self.old.entries < 2097152 }
+        ensures ok { OnOk result (Steps self.old (Event.Order order.now) self.new) }
+        ensures served { OnOk result (IsServed (Event.Order order.now)) }
+        ensures err { OnErr result (self.new ≡ self.old) }
+        ensures memory { IfErr result (λ e. e ≢ StepRefusal.Spent) }
+        ensures unserved { result ≡ Err StepRefusal.Unserved → IsUnserved (Event.Order order.now) }
+    {
+        match order {
+            Order::Switch { tile, act } => self.switch(*tile, *act),
+            _ => Err(StepRefusal::Unserved),
+        }
+    }
+
+    /// The activity is to come to the tile.
+    fn switch(&mut self, tile: TileId, act: ActId) -> Result<(), StepRefusal>
+        requires room { length self.old.entries < 2097152 }
+        ensures ok { OnOk result (Steps self.old (Event.Order (Order.Switch tile act)) self.new) }
+        ensures err { OnErr result (self.new ≡ self.old) }
+        ensures memory { IfErr result (λ e. e ≡ StepRefusal.NoMemory) }
+    {
+        let from = TileId::new(0);
+        self.journal.entries.reserve(1)?;
+        self.wires.reserve(from, tile)?;
+        let Done {
+            outcome,
+            first,
+            second,
+        } = self.kernel.switch(tile, act);
+        put_out_both(&mut self.wires, from, first, second);
+        let event = Event::Order(Order::Switch { tile, act });
+        add(&mut self.journal.entries, event, outcome);
+        Ok(())
+    }
+
+    /// The event that the driver makes next, where there is one: the take with the least receiving tile, then the least
+    /// sending tile, among links that aren't empty; then the tend of the least activity that is Resting or Coming and for
+    /// which something is held; then a close, where a grant is due.
+    pub fn next(&self) -> Option<Event>
+        ensures { result ≡ next_event self.now.machine }
+    {
+        next_event(&self.wires, &self.kernel)
     }
 
     /// The closing lines: the credits of each send grant, the current activity of each tile from 2 on, the flights, and
@@ -294,15 +340,17 @@ impl Machine {
         ensures few { length self.now.entries ≤ 2097152 }
     {
         let mut lines = Vec::new(alloc);
+        let seats = self.kernel.seats();
         credit_lines(
             alloc,
-            &self.journal.setup,
+            self.kernel.grants(),
             &self.tiles,
+            seats,
             &self.wires,
             &mut lines,
         )?;
         tile_lines(self.journal.setup.tiles(), &self.tiles, &mut lines)?;
-        lines.push(AuditLine::Flights(self.wires.flights()))?;
+        lines.push(AuditLine::Flights(flights(seats, &self.wires)))?;
         lines.push(AuditLine::Quiet(self.next().is_none()))?;
         Ok(Audit { lines })
     }

@@ -4,11 +4,15 @@ ghost use Rattle.std.specs.Prelude.{◌≡◌, ℕ, ◌+◌, ◌≤◌, List, �
 ghost use Rattle.m3_base.specs.Context.{Context, new_context, with_endpoint, opened};
 ghost use Rattle.m3_base.specs.Opening.{opening};
 ghost use Rattle.m3_base.specs.declared.setup_line.SetupLine.{SetupLine};
+ghost use Rattle.m3_base.specs.Setup.{IsValid};
 ghost use Rattle.m3_machine.specs.Table.{HasContexts};
 ghost use Rattle.m3_machine.specs.Progress.{AtLine, Progress, CanInstall};
 ghost use Rattle.m3_machine.specs.Low.{HasLow};
 ghost use Rattle.m3_machine.specs.Machine.{empty_tiles};
-ghost use Rattle.m3_machine.specs.Seated.{seated_tiles};
+ghost use Rattle.m3_kernel.specs.Kernel.{seat_of};
+ghost use Rattle.m3_kernel.specs.Readers.{with_new_seat, HasPlaceFor};
+ghost use Rattle.m3_machine.specs.TileView.{seated_with};
+ghost use Rattle.m3_machine.specs.Seated.{rests_with, IsOpening, IsOpened};
 
 use crate::tile::TilePart;
 use m3_base::ids::{ActId, EpId, GrantId, TileId};
@@ -17,7 +21,7 @@ use m3_base::packet::Fresh;
 use m3_base::setup::Setup;
 use m3_base::setup_line::SetupLine;
 use m3_core::context::Context;
-use m3_kernel::site::Site;
+use m3_kernel::kernel::Kernel;
 use std::alloc::{AllocError, Global};
 
 fn no_contexts(alloc: Global) -> Result<Vec<Option<Context>>, AllocError>
@@ -91,6 +95,7 @@ fn read(
 
 /// The contexts of the setup's activities at opening, by their numbers.
 pub fn contexts(alloc: Global, setup: &Setup) -> Result<Vec<Option<Context>>, AllocError>
+    ensures valid { IfOk result (λ t. IsValid setup.now) }
     ensures contexts { IfOk result (λ t. HasContexts t.items (opening setup.now.memory setup.now.lines).contexts) }
     ensures low { IfOk result (λ t. (a : ℕ) (c : Context) → slice_index_or t.items a None ≡ Some c → HasLow 0 c) }
 {
@@ -113,20 +118,44 @@ fn no_tiles(alloc: Global) -> Result<Vec<TilePart>, AllocError>
     Ok(tiles)
 }
 
-/// The tiles, each with the activities at home there and the context of the first.
+/// Seats an activity with its context: it is at its tile where it is the first there, and else it rests in the kernel.
+fn seat(
+    alloc: Global,
+    kernel: &mut Kernel,
+    tile: &mut TilePart,
+    act: ActId,
+    context: Option<Context>,
+) -> Result<(), AllocError>
+    requires fresh { seat_of act kernel.old.kernel ≡ None }
+    requires place { HasPlaceFor kernel.old act (rests_with tile.old.current context) }
+    ensures tile { OnOk result (tile.new ≡ seated_with act context tile.old) }
+    ensures kernel { OnOk result (kernel.new ≡ with_new_seat act (rests_with tile.old.current context) kernel.old) }
+{
+    if tile.current().is_none() {
+        tile.seat(act, context)?;
+        kernel.seat(alloc, act, None)
+    } else {
+        tile.seat(act, None)?;
+        kernel.seat(alloc, act, context)
+    }
+}
+
+/// The tiles, each with the activities at home there and the context of the first; all others rest in the kernel.
 pub fn seated(
     alloc: Global,
-    site: &Site,
+    setup: &Setup,
+    kernel: &mut Kernel,
     table: &mut Vec<Option<Context>>,
 ) -> Result<Vec<TilePart>, AllocError>
-    requires count { length table.old.items ≡ 64 }
-    ensures tiles { IfOk result (λ v. v.items ≡ seated_tiles table.old.items empty_tiles site.now.homes) }
-    ensures count { IfOk result (λ v. length v.items ≡ 16) }
+    requires { IsOpening setup.now kernel.old table.old.items }
+    ensures { IfOk result (λ v. IsOpened setup.now kernel.new v.items) }
 {
     let mut tiles = no_tiles(alloc)?;
-    for home in site.homes() {
+    for at in 0..kernel.site().homes().len() {
+        let home = kernel.site().homes()[at];
         let context = table[usize::from(home.act().number())].take();
-        tiles[usize::from(home.tile().number())].seat(home.act(), context)?;
+        let tile = &mut tiles[usize::from(home.tile().number())];
+        seat(alloc, kernel, tile, home.act(), context)?;
     }
     Ok(tiles)
 }

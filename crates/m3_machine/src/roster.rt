@@ -2,14 +2,16 @@
 
 ghost use Rattle.std.specs.Prelude.{◌≡◌, ℕ, ◌∷◌, [], length, replicate, map, None, IfOk};
 ghost use Rattle.m3_kernel.specs.Parcels.{parcel_of, parcels_of};
-ghost use Rattle.m3_machine.specs.At.{each, on_links, here, contexts_in};
-ghost use Rattle.m3_machine.specs.Closing.{contexts_on};
+ghost use Rattle.m3_kernel.specs.Seats.{seat_value, seats_of};
+ghost use Rattle.m3_machine.specs.At.{each, on_links, here, away, contexts_in};
+ghost use Rattle.m3_machine.specs.Closing.{contexts_of};
 ghost use Rattle.m3_link.specs.Wires.{lists_in};
 ghost use Rattle.m3_machine.specs.Tally.{listed, last_of, Enters};
 
 use crate::tile::TilePart;
 use m3_core::context::Context;
 use m3_core::parcel::Parcel;
+use m3_kernel::seat::Seat;
 use m3_link::wires::Wires;
 use std::alloc::{AllocError, Global};
 use std::collections::VecDeque;
@@ -50,6 +52,24 @@ fn enter_tiles<'a>(roster: &mut Vec<Option<&'a Context>>, tiles: &'a [TilePart])
     }
 }
 
+fn enter_seat<'a>(roster: &mut Vec<Option<&'a Context>>, seat: &'a Seat)
+    requires { length roster.old.items ≡ 256 }
+    ensures { Enters (away (seat_value seat.now)) roster.old.items roster.new.items }
+{
+    if let Some(context) = seat.context() {
+        enter(roster, context);
+    }
+}
+
+fn enter_seats<'a>(roster: &mut Vec<Option<&'a Context>>, seats: &'a [Seat])
+    requires { length roster.old.items ≡ 256 }
+    ensures { Enters (each away (seats_of seats.now)) roster.old.items roster.new.items }
+{
+    for seat in seats {
+        enter_seat(roster, seat);
+    }
+}
+
 fn enter_parcel<'a>(roster: &mut Vec<Option<&'a Context>>, parcel: &'a Parcel)
     requires { length roster.old.items ≡ 256 }
     ensures { Enters (contexts_in (parcel_of parcel.now)) roster.old.items roster.new.items }
@@ -79,17 +99,19 @@ fn enter_links<'a>(roster: &mut Vec<Option<&'a Context>>, links: &'a [VecDeque<P
     }
 }
 
-/// For each activity by its number its context, where it has one on a tile or on a link.
+/// For each activity by its number its context, be it on a tile, in the kernel or on a link.
 pub fn roster<'a>(
     alloc: Global,
     tiles: &'a [TilePart],
+    seats: &'a [Seat],
     links: &'a Wires,
 ) -> Result<Vec<Option<&'a Context>>, AllocError>
     ensures count { IfOk result (λ r. length r.items ≡ 256) }
-    ensures found { IfOk result (λ r. (a : ℕ) → listed r.items a ≡ last_of None a (contexts_on tiles.now (parcels_of links.now.lists))) }
+    ensures found { IfOk result (λ r. (a : ℕ) → listed r.items a ≡ last_of None a (contexts_of tiles.now (seats_of seats.now) (parcels_of links.now.lists))) }
 {
     let mut roster = nobody(alloc)?;
     enter_tiles(&mut roster, tiles);
+    enter_seats(&mut roster, seats);
     enter_links(&mut roster, links.all());
     Ok(roster)
 }

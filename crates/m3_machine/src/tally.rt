@@ -5,7 +5,8 @@ ghost use Rattle.m3_base.specs.Context.{Context as Its};
 ghost use Rattle.m3_base.specs.State.{is_number};
 ghost use Rattle.m3_base.specs.Credit.{gives_back_by, gives_back_in};
 ghost use Rattle.m3_kernel.specs.Parcels.{parcel_of, parcels_of};
-ghost use Rattle.m3_machine.specs.At.{each, on_links, here, contexts_in, packets_in};
+ghost use Rattle.m3_kernel.specs.Seats.{seat_value, seats_of};
+ghost use Rattle.m3_machine.specs.At.{each, on_links, here, away, held_by, contexts_in, packets_in};
 ghost use Rattle.m3_link.specs.Wires.{lists_in};
 ghost use Rattle.m3_machine.specs.Tally.{listed, carries, Counts};
 
@@ -17,7 +18,7 @@ use m3_core::flying::{Flying, Kind};
 use m3_core::parcel::Parcel;
 use m3_endpoint::counts::raise;
 use m3_endpoint::endpoint::Record;
-use m3_link::wires::Wires;
+use m3_kernel::seat::Seat;
 use std::alloc::{AllocError, Global};
 use std::collections::VecDeque;
 
@@ -154,6 +155,41 @@ impl Tally {
     {
         for tile in tiles {
             self.tile(tile);
+        }
+    }
+
+    fn hold(&mut self, roster: &[Option<&Context>], hold: &VecDeque<Packet>)
+        requires { length roster.now ≡ 256 }
+        ensures { Counts (listed roster.now) [] hold.now.items self.old self.new }
+    {
+        for packet in hold.iter() {
+            self.packet(roster, packet);
+        }
+    }
+
+    fn rest(&mut self, seat: &Seat)
+        ensures { (find : ℕ → Option Its) → Counts find (away (seat_value seat.now)) [] self.old self.new }
+    {
+        if let Some(context) = seat.context() {
+            self.context(context);
+        }
+    }
+
+    fn seat(&mut self, roster: &[Option<&Context>], seat: &Seat)
+        requires { length roster.now ≡ 256 }
+        ensures { Counts (listed roster.now) (away (seat_value seat.now)) (held_by (seat_value seat.now)) self.old self.new }
+    {
+        self.rest(seat);
+        self.hold(roster, seat.hold());
+    }
+
+    /// Counts what the kernel has, where the activities' contexts are listed so.
+    pub fn seats(&mut self, roster: &[Option<&Context>], seats: &[Seat])
+        requires { length roster.now ≡ 256 }
+        ensures { Counts (listed roster.now) (each away (seats_of seats.now)) (each held_by (seats_of seats.now)) self.old self.new }
+    {
+        for seat in seats {
+            self.seat(roster, seat);
         }
     }
 

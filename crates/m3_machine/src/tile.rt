@@ -123,7 +123,7 @@ fn told(site: &Site, issued: Issued, front: Option<Shown>) -> TileDid
 }
 
 /// The number of the activity that a packet is for; a read or a write is for none.
-fn target_of(packet: &Packet) -> Option<u8>
+pub fn target_of(packet: &Packet) -> Option<u8>
     ensures { result ≡ target packet.now }
 {
     match packet {

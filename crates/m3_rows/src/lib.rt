@@ -13,3 +13,5 @@ mod runs;
 mod sends;
 #[cfg(test)]
 mod showing;
+#[cfg(test)]
+mod switching;

@@ -4,10 +4,14 @@ use crate::runs::expect_written;
 use std::alloc::{AllocError, Global};
 use std::process::Abort;
 
+/// Activity 0's first message, of two bytes, to endpoint 0 of activity 1.
+const MESSAGE: &[u8] =
+    b"\x01\x01\x00\x01\x00\x00\x00\x00\xff\x00\x00\x02\x00\x00\x00\x02\x00\x00\x00\x00\x00\x00\x00\x01\x00\x00\x00\x07\x00\x00\x00\x00\x00\x00\x00hi";
+
 /// A packet of each kind and each form, with its line.
 const SHOWN: &[(&[u8], &[u8])] = &[
     (
-        b"\x01\x01\x00\x01\x00\x00\x00\x00\xff\x00\x00\x02\x00\x00\x00\x02\x00\x00\x00\x00\x00\x00\x00\x01\x00\x00\x00\x07\x00\x00\x00\x00\x00\x00\x00hi",
+        MESSAGE,
         b"message 0.1 to 1 ep 0 grant 1 send 2 label 7 reply none 6869\n",
     ),
     (
@@ -93,9 +97,8 @@ fn one_after_the_other(rt: HostRuntime) -> Result<(), AllocError> {
 
 #[test]
 fn bad_bytes(rt: HostRuntime) -> Result<(), AllocError> {
-    let (message, _) = SHOWN[0];
     for (bytes, line) in [
-        (&message[..36], b"bad byte 36: short\n".as_slice()),
+        (&MESSAGE[..36], b"bad byte 36: short\n".as_slice()),
         (b"\x09", b"bad byte 0: kind\n"),
         (b"\x01\x01\x00\x01\x00\x00\x00\x02", b"bad byte 7: flags\n"),
         (

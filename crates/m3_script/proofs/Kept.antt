@@ -49,7 +49,7 @@ in_setup (Err w) t e = absurd cc
 one_more : (x : SetupValue) (es : List Event) (e : Event) → misses e x ≡ false → AllNamed x es → AllNamed x (es ++ e ∷ [])
 one_more x es e h before = All-append (λ f. misses f x ≡ false) es (e ∷ []) before (All-cons (λ f. misses f x ≡ false) e [] h (All-nil (λ f. misses f x ≡ false)))
 
-happens : (mode : Mode) (x : SetupValue) (es : List Event) (e : Event) (b d : Bool) (t : State) → is_allowed mode e ≡ b → misses e x ≡ d → AllNamed x es
+happens : (mode : Mode) (x : SetupValue) (es : List Event) (e : Event) (b d : Bool) (t : State) → is_allowed mode es e ≡ b → misses e x ≡ d → AllNamed x es
     → (happened mode x es e >>= λ fs. Ok (Running x fs)) ≡ Ok t → Kept t
 happens mode x es e false d t allowed missed before is = let no = rw allowed at is in absurd cc
 happens mode x es e true true t allowed missed before is = let no = rw (allowed, missed) at is in absurd cc
@@ -70,7 +70,7 @@ line_keeps mode boxes (InSetup x) (line.Event f) t k e = absurd cc
 line_keeps mode boxes (Running x es) (line.Machine tiles memory) t k e = absurd cc
 line_keeps mode boxes (Running x es) (line.Setup l) t k e = absurd cc
 line_keeps mode boxes (Running x es) line.Begin t k e = absurd cc
-line_keeps mode boxes (Running x es) (line.Event f) t k e = happens mode x es f (is_allowed mode f) (misses f x) t refl refl k e
+line_keeps mode boxes (Running x es) (line.Event f) t k e = happens mode x es f (is_allowed mode es f) (misses f x) t refl refl k e
 
 form_keeps : (mode : Mode) (boxes : ℕ) (s : State) (r : Result Line Why) (t : State) → Kept s → (r >>= taken mode boxes s) ≡ Ok t → Kept t
 form_keeps mode boxes s (Ok l) t k e = line_keeps mode boxes s l t k e

@@ -4,6 +4,7 @@ use Rattle.std.specs.Str.{bytes_eq}
 use Rattle.m3_base.specs.declared.command.Command.{Command}
 use Rattle.m3_base.specs.declared.event.Event.{Event}
 use Rattle.m3_base.specs.declared.order.GrantLine.{GrantLine}
+use Rattle.m3_base.specs.declared.order.Order.{Order}
 use Rattle.m3_base.specs.declared.packet.Perm.{Perm}
 use Rattle.m3_base.specs.declared.setup_line.SetupLine.{SetupLine}
 use Rattle.m3_text.specs.declared.refusal.Why.{Why}
@@ -93,10 +94,23 @@ take_of ws = do
   from ← number 0 15 (word 2 ws)
   Ok (Event.Take to from)
 
+unfoldable pub tend_of : List (List ℕ) → Result Event Why
+tend_of ws = do
+  act ← number 0 63 (word 1 ws)
+  Ok (Event.Tend act)
+
+unfoldable pub switch_of : List (List ℕ) → Result Order Why
+switch_of ws = do
+  tile ← number 0 15 (word 1 ws)
+  act ← number 0 63 (word 2 ws)
+  Ok (Order.Switch tile act)
+
 unfoldable pub event_of : List (List ℕ) → Result Event Why
 event_of ws =
     if begins (codes "do" ∷ [] ∷ []) ws then (do_of ws >>= λ x. Ok (Event.Do x.0 x.1))
     else if fits (codes "take" ∷ [] ∷ [] ∷ []) ws then take_of ws
+    else if fits (codes "tend" ∷ [] ∷ []) ws then tend_of ws
+    else if fits (codes "switch" ∷ [] ∷ [] ∷ []) ws then (switch_of ws >>= λ order. Ok (Event.Order order))
     else Err why.Form
 
 -- ---- any line

@@ -1,6 +1,6 @@
 -- The rules of scripts that the lines before decide, beside those that every setup keeps.
-use Rattle.std.specs.Prelude.{◌≡◌, ℕ, Bool, true, false, not, ◌&&◌, ◌||◌, ◌==◌, nat_lt, nat_le, List}
-use Rattle.std.specs.List.{list_any, All}
+use Rattle.std.specs.Prelude.{◌≡◌, ℕ, Bool, true, false, not, ◌&&◌, ◌||◌, nat_lt, nat_le, List, length}
+use Rattle.std.specs.List.{All}
 use Rattle.m3_base.specs.declared.event.Event.{Event}
 use Rattle.m3_base.specs.declared.order.Order.{Order}
 use Rattle.m3_base.specs.declared.order.FileLine.{FileLine}
@@ -10,15 +10,6 @@ use Rattle.m3_base.specs.Setup.{SetupValue, facts_of, is_undeclared, is_programm
 use Rattle.m3_script.specs.declared.script.Mode.{Mode}
 
 -- ---- setup lines
-
-abbrev pub lives_on : ℕ → SetupLine → Bool
-lives_on t (SetupLine.Act a u) = u == t
-lives_on t line = false
-
--- several activities on one tile aren't switched yet
-abbrev pub shares_tile : List SetupLine → SetupLine → Bool
-shares_tile lines (SetupLine.Act a t) = list_any (lives_on t) lines
-shares_tile lines line = false
 
 -- a box needs a logic that was handed in, of which there are this many
 abbrev pub lacks_logic : ℕ → SetupLine → Bool
@@ -33,11 +24,11 @@ has_program a x = is_programmed (program_in (facts_of x).programs a)
 abbrev pub is_absent : ℕ → SetupValue → Bool
 is_absent a x = is_undeclared a (facts_of x)
 
--- the orders come by themselves in any mode, and all other events in a run alone
-abbrev pub is_allowed : Mode → Event → Bool
-is_allowed Mode.Run event = true
-is_allowed mode (Event.Order order) = true
-is_allowed mode event = false
+-- whether an event may follow these: in a run any, and else the orders alone, of which there are at most 4,096
+abbrev pub is_allowed : Mode → List Event → Event → Bool
+is_allowed Mode.Run events event = true
+is_allowed mode events (Event.Order order) = nat_lt (length events) 4096
+is_allowed mode events event = false
 
 abbrev pub order_misses : Order → SetupValue → Bool
 order_misses (Order.Switch t a) x = not (nat_lt t x.tiles) || is_absent a x

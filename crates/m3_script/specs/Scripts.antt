@@ -12,7 +12,7 @@ use Rattle.m3_text.specs.Reads.{◌>>=◌}
 use Rattle.m3_script.specs.declared.line.Line.{Line}
 use Rattle.m3_script.specs.declared.script.Mode.{Mode}
 use Rattle.m3_script.specs.Forms.{line_of}
-use Rattle.m3_script.specs.Rules.{shares_tile, lacks_logic, is_allowed, misses}
+use Rattle.m3_script.specs.Rules.{lacks_logic, is_allowed, misses}
 
 -- a script: its setup and its events in order
 pub record ScriptValue : Type 0 where
@@ -32,14 +32,14 @@ started tiles memory =
     if is_machine tiles memory then Ok (record { tiles = tiles; memory = memory; lines = [] }) else Err why.Rule
 
 abbrev pub is_refused : ℕ → SetupValue → SetupLine → Bool
-is_refused boxes x line = shares_tile x.lines line || (lacks_logic boxes line || refuses line (facts_of x))
+is_refused boxes x line = lacks_logic boxes line || refuses line (facts_of x)
 
 abbrev pub added : ℕ → SetupValue → SetupLine → Result SetupValue Why
 added boxes x line = if is_refused boxes x line then Err why.Rule else Ok (record x { lines = x.lines ++ line ∷ [] })
 
 abbrev pub happened : Mode → SetupValue → List Event → Event → Result (List Event) Why
 happened mode x events event =
-    if not (is_allowed mode event) then Err why.Place
+    if not (is_allowed mode events event) then Err why.Place
     else if misses event x then Err why.Rule
     else Ok (events ++ event ∷ [])
 

@@ -3,12 +3,13 @@
 ghost use Rattle.std.specs.Prelude.{◌≡◌, ◌≤◌, length};
 ghost use Rattle.m3_text.specs.Lines.{texts};
 ghost use Rattle.m3_text.specs.Reads.{Gives};
-ghost use Rattle.m3_script.specs.Forms.{do_of, take_of, event_of};
+ghost use Rattle.m3_script.specs.Forms.{do_of, take_of, tend_of, switch_of, event_of};
 
 use crate::commands::read_command;
 use m3_base::command::Command;
 use m3_base::event::Event;
 use m3_base::ids::ActId;
+use m3_base::order::Order;
 use m3_text::fields::{read_act, read_tile};
 use m3_text::refusal::{LineRefusal, Why};
 use m3_text::shapes::{after, begins, fits, word};
@@ -25,6 +26,10 @@ pub fn read_event(alloc: Global, words: &[&[u8]]) -> Result<Event, LineRefusal>
         Ok(Event::Do { act, command })
     } else if fits(&[b"take", b"", b""], words) {
         read_take(words)
+    } else if fits(&[b"tend", b""], words) {
+        read_tend(words)
+    } else if fits(&[b"switch", b"", b""], words) {
+        Ok(Event::Order(read_switch(words)?))
     } else {
         Err(LineRefusal::Bad(Why::Form))
     }
@@ -51,4 +56,25 @@ fn read_take(words: &[&[u8]]) -> Result<Event, LineRefusal>
     let to = read_tile(word(words, 1))?;
     let from = read_tile(word(words, 2))?;
     Ok(Event::Take { to, from })
+}
+
+/// `tend A`
+#[tactic(auto, unfolding(crate::specs::Forms::tend_of))]
+fn read_tend(words: &[&[u8]]) -> Result<Event, LineRefusal>
+    requires { length words.now ≡ 2 }
+    ensures { Gives (λ e. e) result (tend_of (texts words.now)) }
+{
+    let act = read_act(word(words, 1))?;
+    Ok(Event::Tend(act))
+}
+
+/// `switch T A`
+#[tactic(auto, unfolding(crate::specs::Forms::switch_of))]
+fn read_switch(words: &[&[u8]]) -> Result<Order, LineRefusal>
+    requires { length words.now ≡ 3 }
+    ensures { Gives (λ o. o) result (switch_of (texts words.now)) }
+{
+    let tile = read_tile(word(words, 1))?;
+    let act = read_act(word(words, 2))?;
+    Ok(Order::Switch { tile, act })
 }

@@ -16,4 +16,6 @@ pub use parsing::parse;
 pub use script::{Mode, Script, ScriptRefusal};
 
 #[cfg(test)]
+mod form_tests;
+#[cfg(test)]
 mod tests;

@@ -7,7 +7,7 @@ ghost use Rattle.m3_script.specs.Scripts.{started, added, happened, taken_first,
 ghost use Rattle.m3_script.specs.Steps.{state};
 
 use crate::line::{Line, read_words};
-use crate::rules::{is_allowed, lacks_logic, misses, shares_tile};
+use crate::rules::{is_allowed, lacks_logic, misses};
 use crate::script::Mode;
 use m3_base::event::Event;
 use m3_base::setup::{Setup, SetupRefusal};
@@ -153,7 +153,7 @@ fn start(alloc: Global, tiles: u8, memory: u32) -> Result<Setup, LineRefusal>
 fn add(boxes: u32, setup: Setup, line: SetupLine) -> Result<Setup, LineRefusal>
     ensures { Gives (λ s. s) result (added boxes setup line) }
 {
-    if shares_tile(setup.lines(), &line) || lacks_logic(boxes, &line) {
+    if lacks_logic(boxes, &line) {
         return Err(LineRefusal::Bad(Why::Rule));
     }
     let mut setup = setup;
@@ -172,7 +172,7 @@ fn happen(
 ) -> Result<Vec<Event>, LineRefusal>
     ensures { Gives (λ v. v.items) result (happened mode setup.now events.items event) }
 {
-    if !is_allowed(mode, &event) {
+    if !is_allowed(mode, events.as_slice(), &event) {
         return Err(LineRefusal::Bad(Why::Place));
     }
     if misses(setup, &event) {

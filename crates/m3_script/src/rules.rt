@@ -1,8 +1,7 @@
 //! The rules of scripts, beside those that every setup keeps.
 
 ghost use Rattle.std.specs.Prelude.{◌≡◌, nat_lt};
-ghost use Rattle.std.specs.List.{list_any};
-ghost use Rattle.m3_script.specs.Rules.{lives_on, shares_tile, lacks_logic, has_program, is_absent, is_allowed, order_misses, file_misses, misses};
+ghost use Rattle.m3_script.specs.Rules.{lacks_logic, has_program, is_absent, is_allowed, order_misses, file_misses, misses};
 
 use crate::script::Mode;
 use m3_base::event::Event;
@@ -11,35 +10,8 @@ use m3_base::order::{FileLine, Order};
 use m3_base::setup::Setup;
 use m3_base::setup_line::{ProgramKind, SetupLine};
 
-fn lives_on(line: &SetupLine, tile: TileId) -> bool
-    ensures { result ≡ lives_on tile line.now }
-{
-    match line {
-        SetupLine::Act { tile: home, .. } => home.number() == tile.number(),
-        _ => false,
-    }
-}
-
-fn has_resident(lines: &[SetupLine], tile: TileId) -> bool
-    ensures { result ≡ list_any (lives_on tile) lines.now }
-{
-    for line in lines {
-        if lives_on(line, tile) {
-            return true;
-        }
-    }
-    false
-}
-
-/// Whether an activity of the line would be the second on its tile.
-pub fn shares_tile(lines: &[SetupLine], line: &SetupLine) -> bool
-    ensures { result ≡ shares_tile lines.now line.now }
-{
-    match line {
-        SetupLine::Act { tile, .. } => has_resident(lines, *tile),
-        _ => false,
-    }
-}
+// The most orders that a script has whose other events the driver makes.
+const MOST_ORDERS: usize = 4096;
 
 /// Whether the line is a box for a logic that isn't among those handed in.
 pub fn lacks_logic(boxes: u32, line: &SetupLine) -> bool
@@ -51,14 +23,14 @@ pub fn lacks_logic(boxes: u32, line: &SetupLine) -> bool
     }
 }
 
-/// Whether an event may stand in a script that is read for this.
-pub fn is_allowed(mode: Mode, event: &Event) -> bool
-    ensures { result ≡ is_allowed mode event.now }
+/// Whether an event may follow these in a script that is read for this: any in a run, and else an order, up to 4,096.
+pub fn is_allowed(mode: Mode, events: &[Event], event: &Event) -> bool
+    ensures { result ≡ is_allowed mode events.now event.now }
 {
     match mode {
         Mode::Run => true,
         _ => match event {
-            Event::Order(_) => true,
+            Event::Order(_) => events.len() < MOST_ORDERS,
             _ => false,
         },
     }

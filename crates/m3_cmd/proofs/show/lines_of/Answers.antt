@@ -1,4 +1,4 @@
-use Rattle.std.proofs.Common.{◌≡◌, ◌<◌, ◌-◌, arith, refl, length, rules, string_bytes}
+use Rattle.std.proofs.Common.{◌<◌, ◌-◌, refl, length, rules, string_bytes}
 use Rattle.m3_cmd.proofs.Showing.{next, why}
 use Rattle.m3_cmd.proofs.show.lines_of.Goals as goal
 

@@ -1,4 +1,4 @@
-use Rattle.std.proofs.Common.{◌≡◌, ◌+◌, ◌≤◌, ◌∙◌, min, drop, sym, ap, zero-add, arith}
+use Rattle.std.proofs.Common.{◌≤◌, ◌∙◌, min, sym, ap, zero-add, arith}
 use Rattle.m3_link.specs.Wires.{lists_in}
 use Rattle.m3_link.specs.Links.{data_on}
 use Rattle.m3_link.proofs.Counting.{link_counted, links_counted}

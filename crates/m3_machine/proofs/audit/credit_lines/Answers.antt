@@ -1,23 +1,22 @@
-use Rattle.std.proofs.Common.{◌≡◌, ℕ, ◌+◌, ◌-◌, ◌++◌, ◌∙◌, drop, option_to_list, append-nil, ap, sym, Vec}
+use Rattle.std.proofs.Common.{◌≡◌, ℕ, ◌+◌, ◌-◌, ◌<◌, ◌≤◌, ◌++◌, ◌∙◌, drop, length, arith, option_to_list, append-nil, ap, sym, Vec}
 use Rattle.std.specs.declared.alloc.Global.{Global}
 use Rattle.m3_base.specs.declared.journal.AuditLine.{AuditLine}
 use Rattle.m3_base.specs.State.{grant_in}
-use Rattle.m3_base.specs.Setup.{facts_of}
 use Rattle.m3_kernel.specs.Parcels.{parcels_of}
-use Rattle.m3_link.specs.Wires.{lists_in}
-use Rattle.m3_machine.specs.Closing.{contexts_on, packets_on, line_at, tally_lines}
-use Rattle.m3_machine.proofs.Crediting.{lines_more, line_joined, few_grants, tally_is, lines_end, no_line}
+use Rattle.m3_kernel.specs.Seats.{seats_of}
+use Rattle.m3_machine.specs.Closing.{contexts_of, packets_of, live_line, tally_lines}
+use Rattle.m3_machine.proofs.Crediting.{lines_more, line_joined, tally_is, lines_end, no_line}
 use Rattle.m3_machine.proofs.audit.credit_lines.Goals as goal
 use Rattle.m3_machine.proofs.audit.credit_lines.Goals.{in-Some+in_ok-push, in_default}
 
 pub loop-number-preserved : goal.loop-number-preserved
 loop-number-preserved c =
     let t = c.in_ok-tally.tally in
-    let gs = (facts_of c.args.setup.now).grants in
+    let gs = c.args.grants.now.grants in
     let n = c.loop-number.number in
     let old = c.loop-number.lines.items in
     let new = c.match-grant_line.lines.items in
-    let line : option_to_list c.grant_line.result ≡ line_at t n (grant_in gs n) = c.grant_line.ensures ∙ ap (λ (g : ℕ). line_at t g (grant_in gs g)) c.new.ensures in
+    let line : option_to_list c.grant_line.result ≡ live_line t n (grant_in gs n) = c.grant_line.ensures ∙ ap (λ (g : ℕ). live_line t g (grant_in gs g)) c.new.ensures in
     let joined : new ≡ old ++ option_to_list c.grant_line.result = elim c.match-grant_line.branch [
       | in-Some+in_ok-push w ↦ ap (λ (v : Vec AuditLine Global). v.items) w.lines-is ∙ w.in_ok-push.ensures.items ∙ ap (λ o. old ++ option_to_list o) (sym w.in-Some.is)
       | in_default w ↦ ap (λ (v : Vec AuditLine Global). v.items) w.lines-is ∙ sym (append-nil old) ∙ ap (λ l. old ++ l) (sym (no_line c.grant_line.result w.in_default.not-Some))
@@ -28,9 +27,12 @@ loop-number-preserved c =
 pub returns : goal.returns
 returns c =
     let t = c.in_ok-tally.tally in
-    let gs = (facts_of c.args.setup.now).grants in
+    let gs = c.args.grants.now.grants in
     let n = c.loop-number.number in
+    let seats = seats_of c.args.seats.now in
     let links = parcels_of c.args.links.now.lists in
-    let few = few_grants c.args.setup.now c.requires in
-    sym (c.loop-number.invariant ∙ lines_end t gs n few c.loop-number-test.false c.loop-number.lines.items)
-    ∙ ap (λ l. c.args.lines.now.items ++ l) (tally_is t (contexts_on c.args.tiles.now links) (packets_on links) gs c.in_ok-tally.ensures few)
+    let count : c.count-count.result ≡ length gs = c.count-count.ensures.count in
+    let few : length gs ≤ 4096 = let r = c.count-count.ensures.range in omega arith in
+    let past : length gs < n = let done = c.loop-number-test.false in omega arith in
+    sym (c.loop-number.invariant ∙ lines_end t gs n past c.loop-number.lines.items)
+    ∙ ap (λ l. c.args.lines.now.items ++ l) (tally_is t (contexts_of c.args.tiles.now seats links) (packets_of seats links) gs c.in_ok-tally.ensures few)

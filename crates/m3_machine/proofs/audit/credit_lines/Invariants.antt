@@ -1,8 +1,7 @@
 use Rattle.std.proofs.Common.{◌≡◌, ◌++◌, ◌-◌, drop}
-use Rattle.m3_base.specs.Setup.{facts_of}
 use Rattle.m3_machine.specs.Closing.{tally_lines}
 use Rattle.m3_machine.proofs.audit.credit_lines.Given as goal
 
 abbrev pub invariant-loop-number : goal.invariant-loop-number
 invariant-loop-number l =
-    l.fn.lines.items ++ tally_lines l.tally 1 (facts_of l.setup).grants ≡ l.lines.items ++ tally_lines l.tally l.number (drop (l.number - 1) (facts_of l.setup).grants)
+    l.fn.lines.items ++ tally_lines l.tally 1 l.fn.grants.grants ≡ l.lines.items ++ tally_lines l.tally l.number (drop (l.number - 1) l.fn.grants.grants)

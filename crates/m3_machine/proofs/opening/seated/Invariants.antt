@@ -1,10 +1,6 @@
-use Rattle.std.proofs.Common.{◌≡◌, length, map, drop}
-use Rattle.m3_kernel.specs.Homes.{value_of}
-use Rattle.m3_machine.specs.Machine.{empty_tiles}
-use Rattle.m3_machine.specs.Seated.{seated_tiles}
+use Rattle.std.proofs.Common.{drop}
+use Rattle.m3_machine.proofs.Opened.{Seats, home_list}
 use Rattle.m3_machine.proofs.opening.seated.Given as goal
 
-abbrev pub invariant-loop-home : goal.invariant-loop-home
-invariant-loop-home l =
-    (length l.table.items ≡ 64) × (length l.tiles.items ≡ 16)
-    × (seated_tiles l.table.items l.tiles.items (map value_of (drop l.home-index l.home-items)) ≡ seated_tiles l.fn.table.items empty_tiles l.fn.site.homes)
+abbrev pub invariant-loop-at : goal.invariant-loop-at
+invariant-loop-at l = Seats l.fn.setup l.kernel l.tiles.items l.table.items (drop l.at (home_list l.fn.setup))

@@ -1,4 +1,4 @@
-use Rattle.std.proofs.Common.{◌≡◌, false, true, Some, sym, ap, ◌∙◌}
+use Rattle.std.proofs.Common.{◌≡◌, false, true, sym, ap, ◌∙◌}
 use Rattle.std.specs.Option.{option_copied}
 use Rattle.m3_kernel.specs.Naming.{is_home, is_from_home}
 use Rattle.m3_machine.proofs.Readers.{unread_refused, unread_passed}

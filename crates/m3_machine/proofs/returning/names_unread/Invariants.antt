@@ -1,4 +1,4 @@
-use Rattle.std.proofs.Common.{◌≡◌, ◌≤◌, drop, length}
+use Rattle.std.proofs.Common.{◌≡◌, drop}
 use Rattle.std.specs.List.{list_all}
 use Rattle.m3_kernel.specs.Naming.{is_from_home}
 use Rattle.m3_machine.specs.Records.{unread_of}

@@ -1,0 +1,37 @@
+use Rattle.std.proofs.Common.{◌≡◌, ℕ, ◌<◌, ◌∙◌, [], sym, ap, subst}
+use Rattle.m3_base.specs.declared.event.Said.{Said}
+use Rattle.m3_kernel.specs.Parts.{tile_of, Kernel}
+use Rattle.m3_kernel.specs.Kernel.{seat_of, then_restore, take_saved}
+use Rattle.m3_kernel.specs.States.{kernel_in}
+use Rattle.m3_kernel.proofs.Taking.{leaving_there, rest_tables, rest_is, rested_kernel}
+use Rattle.m3_kernel.proofs.Deeds.{does_as}
+use Rattle.m3_kernel.proofs.state.State.rest.Goals as goal
+
+pub then_restore-requires : goal.then_restore-requires
+then_restore-requires c =
+    let s = c.args.self.now in
+    let kept = c.requires.kept in
+    let a = c.args.context.act in
+    let tile : c.from.result ≡ tile_of s.site a = c.from.ensures ∙ c.number-2.ensures.same ∙ c.tile_of-tile.ensures ∙ ap (tile_of s.site) (c.number.ensures.same ∙ c.act-act.ensures) in
+    let low : c.from.result < 16 = subst (λ (n : ℕ). n < 16) (sym c.from.ensures) c.number-2.ensures.range in
+    record {
+      tables = rest_tables s kept a c.args.at c.requires.place c.index_mut.result.now c.index_mut.ensures.value c.from.result tile low c.index_mut-2.result.now c.index_mut-2.ensures.value
+          (leaving_there (kernel_in s) a c.args.at c.requires.place c.requires.leaves) c.rest.new.self c.args.context c.args.ended c.rest.ensures;
+      programs = kept.programs;
+      memory = kept.memory;
+    }
+
+pub returns-clause-does : goal.returns-clause-does
+returns-clause-does c =
+    let s = c.args.self.now in
+    let kept = c.requires.kept in
+    let a = c.args.context.act in
+    let tile : c.from.result ≡ tile_of s.site a = c.from.ensures ∙ c.number-2.ensures.same ∙ c.tile_of-tile.ensures ∙ ap (tile_of s.site) (c.number.ensures.same ∙ c.act-act.ensures) in
+    let low : c.from.result < 16 = subst (λ (n : ℕ). n < 16) (sym c.from.ensures) c.number-2.ensures.range in
+    let leaving = leaving_there (kernel_in s) a c.args.at c.requires.place c.requires.leaves in
+    let step = rest_is s kept a c.args.at c.requires.place c.index_mut.result.now c.index_mut.ensures.value c.from.result tile low c.index_mut-2.result.now c.index_mut-2.ensures.value leaving c.rest.new.self c.args.context c.args.ended c.rest.ensures c.args.waiting in
+    let k : Kernel = rested_kernel s kept a c.args.at c.requires.place c.index_mut.result.now c.index_mut.ensures.value c.from.result tile low c.index_mut-2.result.now c.index_mut-2.ensures.value leaving c.rest.new.self c.args.context c.args.ended c.rest.ensures in
+    does_as c.then_restore.result (kernel_in c.then_restore.new.self) (take_saved s.site (kernel_in s) c.args.context c.args.waiting c.args.ended (seat_of a (kernel_in s)))
+    (then_restore s.site (Said.Saved c.act-act.result) c.tile_of-tile.result k [])
+    (step ∙ ap (λ n. then_restore s.site (Said.Saved n) c.from.result k []) (sym c.act-act.ensures) ∙ ap (λ t. then_restore s.site (Said.Saved c.act-act.result) t k []) (c.from.ensures ∙ c.number-2.ensures.same))
+    c.then_restore.ensures.does

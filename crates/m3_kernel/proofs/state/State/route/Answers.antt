@@ -1,0 +1,30 @@
+use Rattle.std.proofs.Common.{refl, sym, ap, ◌∙◌, rules}
+use Rattle.std.specs.Prelude.{◌||◌}
+use Rattle.m3_kernel.specs.Parts.{tile_of}
+use Rattle.m3_kernel.specs.Kernel.{is_placed_seat, is_leaving_seat, is_coming_seat}
+use Rattle.m3_kernel.proofs.Changing.{code_here, room_of, routes_placed, routes_held, tables_now}
+use Rattle.m3_kernel.proofs.state.State.route.Goals as goal
+
+pub keep-requires : goal.keep-requires
+keep-requires c =
+    let x = c.index_mut-seat.result.now in
+    room_of x x.seating (c.requires.room x (code_here c.args.self.now.seats.items c.args.at x c.requires.there c.index_mut-seat.ensures.value)) (λ q. c.in_default.not-Placed (c.place.ensures ∙ q))
+
+pub returns-in-Placed-clause-routes : goal.returns-in-Placed-clause-routes
+returns-in-Placed-clause-routes c =
+    let s = c.args.self.now in
+    let x = c.index_mut-seat.result.now in
+    routes_placed s c.requires.kept c.args.at x x c.requires.there c.index_mut-seat.ensures.value c.args.packet c.tile_of-to.result (sym c.place.ensures ∙ c.in-Placed.is) (c.tile_of-to.ensures ∙ ap (tile_of s.site) (c.number.ensures.same ∙ c.act.ensures)) refl
+
+pub returns-in_default : goal.returns-in_default
+returns-in_default c =
+    let s = c.args.self.now in
+    let kept = c.requires.kept in
+    let x = c.index_mut-seat.result.now in
+    let y = c.keep.new.self in
+    let was = c.index_mut-seat.ensures.value in
+    record {
+      kept = record { tables = tables_now s kept c.args.at x y c.requires.there was (ap (λ z. z.act) c.keep.ensures) (ap (λ z. is_leaving_seat z.seating) c.keep.ensures) (ap (λ z. is_placed_seat z.seating || is_coming_seat z.seating) c.keep.ensures); programs = kept.programs; memory = kept.memory };
+      site = search rules;
+      routes = routes_held s kept c.args.at x y c.requires.there was c.args.packet (λ q. c.in_default.not-Placed (c.place.ensures ∙ q)) c.keep.ensures;
+    }

@@ -1,0 +1,188 @@
+//! The kernel: it counts where each activity is, keeps the contexts of those that are away and what is held for them,
+//! and routes packets.
+
+ghost use Rattle.std.specs.Prelude.{◌≡◌, None, Some, true, false, IfOk, IfErr, OnOk, OnErr, option_copied, option_map, length, slice_get, []};
+ghost use Rattle.m3_base.specs.declared.order.Order.{Order};
+ghost use Rattle.m3_base.specs.Setup.{facts_of};
+ghost use Rattle.m3_kernel.specs.Parcels.{parcel_of};
+ghost use Rattle.m3_kernel.specs.Sites.{site_of};
+ghost use Rattle.m3_kernel.specs.Kernel.{seat_of, kernel_take, kernel_tend, kernel_order};
+ghost use Rattle.m3_kernel.specs.Seats.{seats_of, place_of};
+ghost use Rattle.m3_kernel.specs.Doing.{Does};
+ghost use Rattle.m3_kernel.specs.Readers.{new_kernel, with_new_seat, HasPlaceFor, hold_in, context_of_seat, tend_aim, is_seated, SeatIs};
+
+use crate::came::answers_to;
+use crate::done::Done;
+use crate::seat::{Place, Seat};
+use crate::site::Site;
+use crate::state::State;
+use m3_base::ids::{ActId, TileId};
+use m3_base::packet::Packet;
+use m3_base::setup::Setup;
+use m3_core::context::Context;
+use m3_core::parcel::Parcel;
+use m3_grants::grants::Grants;
+use std::alloc::{AllocError, Global};
+use std::marker::Model;
+
+/// The kernel of a machine. Contracts see it as a kernel at its site. None of its activities has a program.
+#[derive(Drop)]
+pub struct Kernel {
+    state: State,
+}
+
+impl Model for Kernel {
+    ghost use Rattle.m3_kernel.specs.States.{KernelAt};
+
+    ghost Value = { KernelAt };
+
+    ghost use Rattle.m3_kernel.specs.KernelView.{kernel_at, IsWhole};
+
+    ghost view = { kernel_at };
+
+    ghost invariant = { IsWhole };
+}
+
+impl Kernel {
+    /// The kernel of a setup, before its activities have seats.
+    pub fn new(alloc: Global, setup: &Setup) -> Result<Kernel, AllocError>
+        ensures site { IfOk result (λ k. k.site ≡ site_of setup.now.memory [] setup.now.lines) }
+        ensures kernel { IfOk result (λ k. k.kernel ≡ new_kernel (facts_of setup.now).grants) }
+    {
+        let state = State::new(alloc, setup)?;
+        Ok(Kernel { state })
+    }
+
+    /// The next declared activity gets a seat, after the others. Without a context it is Placed, and is the first of its
+    /// tile; with one it rests. Want of memory changes nothing.
+    pub fn seat(
+        &mut self,
+        alloc: Global,
+        act: ActId,
+        context: Option<Context>,
+    ) -> Result<(), AllocError>
+        requires fresh { seat_of act self.old.kernel ≡ None }
+        requires place { HasPlaceFor self.old act context }
+        ensures ok { OnOk result (self.new ≡ with_new_seat act context self.old) }
+        ensures err { OnErr result (self.new ≡ self.old) }
+    {
+        self.state.seat(alloc, act, context)
+    }
+
+    /// Where the setup's activities have their homes.
+    pub fn site(&self) -> &Site
+        ensures { result.now ≡ self.now.site }
+    {
+        &self.state.site
+    }
+
+    /// The kernel's grants.
+    pub fn grants(&self) -> &Grants
+        ensures grants { result.now.grants ≡ self.now.kernel.grants }
+        ensures memory { result.now.memory ≡ self.now.site.memory }
+    {
+        &self.state.grants
+    }
+
+    /// The seats, in the order in which the activities were declared.
+    pub fn seats(&self) -> &[Seat]
+        ensures { seats_of result.now ≡ self.now.kernel.seats }
+    {
+        self.state.seats.as_slice()
+    }
+
+    /// The seat of an activity. None exactly where it has none.
+    pub fn seat_of(&self, act: ActId) -> Option<&Seat>
+        ensures { SeatIs (seat_of act self.now.kernel) (option_copied result) }
+    {
+        match self.state.place(act.number()) {
+            None => None,
+            Some(at) => Some(&self.state.seats[at]),
+        }
+    }
+
+    /// How an activity is counted. The condition is that it has a seat.
+    pub fn place(&self, act: ActId) -> Place
+        requires { is_seated (seat_of act self.now.kernel) ≡ true }
+        ensures { Some result ≡ option_map (λ x. place_of x.seating) (seat_of act self.now.kernel) }
+    {
+        match self.seat_of(act) {
+            None => unreachable!(),
+            Some(seat) => seat.place(),
+        }
+    }
+
+    /// How many packets are held for an activity.
+    pub fn hold_len(&self, act: ActId) -> usize
+        ensures { result ≡ length (hold_in (seat_of act self.now.kernel)) }
+    {
+        match self.seat_of(act) {
+            None => 0,
+            Some(seat) => seat.hold().len(),
+        }
+    }
+
+    /// The packet at this place of an activity's hold list, oldest first.
+    pub fn held(&self, act: ActId, at: usize) -> Option<&Packet>
+        ensures { option_copied result ≡ slice_get (hold_in (seat_of act self.now.kernel)) at }
+    {
+        match self.seat_of(act) {
+            None => None,
+            Some(seat) => seat.hold().get(at),
+        }
+    }
+
+    /// The context of an activity that is Resting or Coming. None where the kernel has none.
+    pub fn context(&self, act: ActId) -> Option<&Context>
+        ensures { option_copied result ≡ context_of_seat (seat_of act self.now.kernel) }
+    {
+        match self.seat_of(act) {
+            None => None,
+            Some(seat) => seat.context(),
+        }
+    }
+
+    /// The tile that the answer to the front of an activity's hold list goes to; tile 0 where none arises.
+    pub fn tend_aim(&self, act: ActId) -> TileId
+        ensures { result ≡ tend_aim self.now.site (seat_of act self.now.kernel) }
+    {
+        match self.held(act, 0) {
+            None => TileId::new(0),
+            Some(packet) => match answers_to(packet) {
+                None => TileId::new(0),
+                Some(to) => self.state.site.tile_of(to),
+            },
+        }
+    }
+
+    /// The kernel takes a parcel. One that doesn't fit is dropped, and the outcome is idle empty-link. At most one parcel
+    /// goes out. Want of memory changes nothing and gives the parcel back.
+    pub fn take(&mut self, parcel: Parcel) -> Result<Done, (Parcel, AllocError)>
+        ensures site { self.new.site ≡ self.old.site }
+        ensures ok { IfOk result (λ d. Does d self.new.kernel (kernel_take self.old.site self.old.kernel (parcel_of parcel))) }
+        ensures err { OnErr result (self.new ≡ self.old) }
+        ensures given_back { IfErr result (λ e. e.0 ≡ parcel) }
+    {
+        self.state.take(parcel)
+    }
+
+    /// The front of an activity's hold list is applied to its context: idle not-resting where it is Placed or Leaving,
+    /// then idle empty-hold where nothing that fits is held. First the answer or Closed goes out, then Restore. Want of
+    /// memory changes nothing.
+    pub fn tend(&mut self, alloc: Global, act: ActId) -> Result<Done, AllocError>
+        ensures site { self.new.site ≡ self.old.site }
+        ensures ok { IfOk result (λ d. Does d self.new.kernel (kernel_tend self.old.site self.old.kernel act)) }
+        ensures err { OnErr result (self.new ≡ self.old) }
+    {
+        self.state.tend(alloc, act)
+    }
+
+    /// The activity is to come to the tile: Save goes to who is there. Refused where the tile isn't its home, then where
+    /// it is Placed or Coming already, then where a switch of the tile is under way.
+    pub fn switch(&mut self, tile: TileId, act: ActId) -> Done
+        ensures site { self.new.site ≡ self.old.site }
+        ensures does { Does result self.new.kernel (kernel_order self.old.site self.old.kernel (Order.Switch tile act)) }
+    {
+        self.state.switch(tile, act)
+    }
+}

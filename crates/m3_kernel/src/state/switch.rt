@@ -1,0 +1,92 @@
+//! Switches.
+
+ghost use Rattle.std.specs.Prelude.{◌≡◌};
+ghost use Rattle.m3_kernel.specs.Kernel.{seat_of, switch};
+ghost use Rattle.m3_kernel.specs.States.{kernel_in, IsKept};
+ghost use Rattle.m3_kernel.specs.Doing.{Does, Judges, IsSwitch, LeaverAt};
+
+use crate::done::{Done, says};
+use crate::seat::Place;
+use crate::state::State;
+use m3_base::event::{No, Said};
+use m3_base::ids::{ActId, TileId};
+use m3_core::parcel::{Emit, Parcel};
+
+/// The seats of who leaves a tile and of who comes.
+#[derive(Clone, Copy, Debug, Drop)]
+pub struct Switch {
+    leaves: usize,
+    comes: usize,
+}
+
+impl State {
+    /// Who leaves the tile and who comes by a switch, or why it is refused.
+    fn judge(&self, tile: TileId, act: ActId) -> Result<Switch, No>
+        requires { IsKept self.now }
+        ensures { Judges self.now tile act result }
+    {
+        let Some(comes) = self.place(act.number()) else {
+            return Err(No::NotHome);
+        };
+        if self.site.tile_of(act.number()) != tile {
+            return Err(No::NotHome);
+        }
+        match self.seats[comes].place() {
+            Place::Placed => Err(No::Already),
+            Place::Coming => Err(No::Already),
+            Place::Leaving => Err(No::Leaving),
+            Place::Resting => match self.leaver(tile) {
+                None => Err(No::Leaving),
+                Some(leaves) => Ok(Switch { leaves, comes }),
+            },
+        }
+    }
+
+    /// The seat of who leaves the tile. None where nobody is there, or a switch of the tile is under way.
+    fn leaver(&self, tile: TileId) -> Option<usize>
+        requires { IsKept self.now }
+        ensures { LeaverAt self.now tile result }
+    {
+        let berth = self.berth(tile);
+        if berth.leaving.is_some() {
+            return None;
+        }
+        let leaves = berth.there?;
+        match self.seats[leaves].place() {
+            Place::Placed => Some(leaves),
+            _ => None,
+        }
+    }
+
+    /// The switch is carried out: Save goes to who leaves.
+    fn swap(&mut self, tile: TileId, act: ActId, pair: Switch) -> Done
+        requires kept { IsKept self.old }
+        requires allowed { IsSwitch self.old tile act pair }
+        ensures kept { IsKept self.new }
+        ensures site { self.new.site ≡ self.old.site }
+        ensures does { Does result (kernel_in self.new) (switch self.old.site (kernel_in self.old) tile (seat_of act (kernel_in self.old))) }
+    {
+        let Switch { leaves, comes } = pair;
+        let leaver = self.seats[leaves].act();
+        self.seats[leaves].leave();
+        self.seats[comes].come();
+        let berth = &mut self.berths[usize::from(tile.number())];
+        berth.leaving = Some(leaves);
+        berth.there = Some(comes);
+        let parcel = Parcel::Save(leaver);
+        says(Said::Save(leaver), Some(Emit { to: tile, parcel }))
+    }
+
+    /// The activity is to come to the tile, for who is there.
+    pub fn switch(&mut self, tile: TileId, act: ActId) -> Done
+        requires { IsKept self.old }
+        ensures kept { IsKept self.new }
+        ensures site { self.new.site ≡ self.old.site }
+        ensures does { Does result (kernel_in self.new) (switch self.old.site (kernel_in self.old) tile (seat_of act (kernel_in self.old))) }
+    {
+        match self.judge(tile, act) {
+            Err(why) => says(Said::No(why), None),
+            Ok(pair) => self.swap(tile, act, pair),
+        }
+    }
+}
