@@ -1,5 +1,5 @@
 -- What a tile's code answers, as the local steps have it.
-use Rattle.std.specs.Prelude.{◌≡◌, ℕ, Bool, true, false, not, ◌==◌, List, [], ◌++◌, Option, Some, None, option_map}
+use Rattle.std.specs.Prelude.{◌≡◌, ℕ, Bool, true, false, not, ◌==◌, [], ◌++◌, Option, Some, None, option_map}
 use Rattle.m3_base.specs.declared.message.Message.{Message}
 use Rattle.m3_base.specs.declared.packet.Packet.{Packet}
 use Rattle.m3_base.specs.declared.event.Said.{Said}
@@ -11,11 +11,8 @@ use Rattle.m3_base.specs.Flight.{name_of}
 use Rattle.m3_core.specs.declared.issued.Issued.{Issued}
 use Rattle.m3_machine.specs.declared.shown.Shown.{Shown}
 use Rattle.m3_kernel.specs.Parcels.{out_of}
-use Rattle.m3_core.specs.declared.arrived.Arrived.{Arrived}
-use Rattle.m3_base.specs.declared.ids.FlightId.{FlightId}
 use Rattle.m3_machine.specs.declared.tile.TileDid.{TileDid}
-use Rattle.m3_kernel.specs.Parts.{Site, Parcel, Deed, data_out, answer_tile, closed_out}
-use Rattle.m3_machine.specs.Tile.{new_out}
+use Rattle.m3_kernel.specs.Parts.{Site, Deed, data_out, answer_tile, closed_out}
 
 abbrev pub shown_of : Message → Shown
 shown_of m = record { is_reply = not (m.header.flags == 0); from = m.header.sender; label = m.header.label; payload = m.payload }
@@ -47,42 +44,6 @@ abbrev pub plain : Said → Outcome
 plain said = record { made = None; said = said; restore = None }
 
 -- ---- what comes of a packet
-
--- the grant of a credit
-abbrev pub credit_of : Packet → Option ℕ
-credit_of (Packet.Credit id to g) = Some g
-credit_of packet = None
-
--- a credit is told with its grant
-abbrev pub NamesCredit : Option ℕ → Arrived → Type 0
-NamesCredit None (Arrived.Credited taken) = ⊥
-NamesCredit credit arrived = Unit {0}
-
-abbrev pub said_of_grant : FlightId → ℕ → Bool → Said
-said_of_grant id g true = Said.Credited id g
-said_of_grant id g false = Said.Discarded id g
-
-abbrev pub said_credit : FlightId → Option ℕ → Bool → Said
-said_credit id None taken = Said.Nothing
-said_credit id (Some g) taken = said_of_grant id g taken
-
-abbrev pub said_came : FlightId → Option ℕ → Arrived → Said
-said_came id credit (Arrived.Credited taken) = said_credit id credit taken
-said_came id credit (Arrived.Landed answer) = Said.Landed id
-said_came id credit (Arrived.Refused why answer) = Said.LandRefused id why
-said_came id credit (Arrived.Answered x answer closed) = Said.Answered x answer closed
-said_came id credit (Arrived.Installed g) = Said.Installed id g
-said_came id credit (Arrived.Closing g) = Said.Closing id g
-said_came id credit (Arrived.Closed g) = Said.Closed id g
-
-abbrev pub out_came : Site → Arrived → List (ℕ × Parcel)
-out_came h (Arrived.Landed answer) = new_out h (Some answer)
-out_came h (Arrived.Refused why answer) = new_out h (Some answer)
-out_came h (Arrived.Answered id answer closed) = closed_out closed
-out_came h (Arrived.Closed g) = closed_out (Some g)
-out_came h (Arrived.Credited taken) = []
-out_came h (Arrived.Installed g) = []
-out_came h (Arrived.Closing g) = []
 
 -- the answer and the part after it are those of the local step
 pub record Does {S : Type 0} (did : TileDid) (now : S) (deed : Deed S) : Type 0 where

@@ -6,10 +6,10 @@ ghost use Rattle.m3_kernel.specs.Parcels.{parcels_of, out_of};
 ghost use Rattle.m3_machine.specs.Sends.{back_of, kernel_aim, HasRoomFor, HasTwoFor, RoomToTake};
 ghost use Rattle.m3_machine.specs.Whole.{entry, out_links};
 
-use crate::tile::target_of;
 use m3_base::event::{Entry, Event, Outcome};
 use m3_base::ids::TileId;
 use m3_core::parcel::{Emit, Parcel};
+use m3_kernel::came::target_of;
 use m3_kernel::site::Site;
 use m3_link::wires::Wires;
 use std::alloc::AllocError;

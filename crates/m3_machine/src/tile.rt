@@ -1,12 +1,13 @@
 //! A tile's part: its current activity, whose commands it issues and whose packets it takes.
 
-ghost use Rattle.std.specs.Prelude.{◌≡◌, ◌==◌, ◌∷◌, [], List, IfOk, OnOk, OnErr, IsSome, None, Some, is_some, option_copied};
+ghost use Rattle.std.specs.Prelude.{◌≡◌, ◌==◌, ◌∷◌, ◌++◌, [], List, IfOk, OnOk, OnErr, None, Some, is_some, option_copied};
 ghost use Rattle.std.specs.List.{list_any};
 ghost use Rattle.m3_core.specs.Conditions.{IsBufferFor};
 ghost use Rattle.m3_base.specs.Places.{target, is_here};
+ghost use Rattle.m3_kernel.specs.Came.{AtMostOne};
 ghost use Rattle.m3_kernel.specs.Parts.{Heard, closed_out};
 ghost use Rattle.m3_machine.specs.Tile.{tile_do, new_out, act_in, stay_of, arrive_named, take_data, take_save, take_restore, tile_take};
-ghost use Rattle.m3_machine.specs.Telling.{said_issued, packet_issued, plain, credit_of, said_credit, said_came, out_came, NamesCredit, Lands, Does};
+ghost use Rattle.m3_machine.specs.Telling.{said_issued, packet_issued, plain, Lands, Does};
 ghost use Rattle.m3_kernel.specs.Parcels.{parcel_of, out_of};
 ghost use Rattle.m3_machine.specs.Machine.{empty_tile};
 ghost use Rattle.m3_machine.specs.TileView.{CanIssue, aim_at, runs, seated_with};
@@ -16,13 +17,13 @@ use crate::returning::may_return;
 use crate::shown::{Shown, fetched, front};
 use m3_base::command::Command;
 use m3_base::event::{IdleWhy, Outcome, Said};
-use m3_base::ids::{ActId, FlightId, GrantId, TileId};
+use m3_base::ids::{ActId, GrantId, TileId};
 use m3_base::packet::Packet;
 use m3_base::payload::Payload;
-use m3_core::arrived::Arrived;
 use m3_core::context::Context;
 use m3_core::issued::Issued;
 use m3_core::parcel::{Emit, Parcel};
+use m3_kernel::came::{Came, meet, target_of};
 use m3_kernel::site::Site;
 use std::alloc::{AllocError, Global};
 use std::marker::Model;
@@ -122,31 +123,6 @@ fn told(site: &Site, issued: Issued, front: Option<Shown>) -> TileDid
     }
 }
 
-/// The number of the activity that a packet is for; a read or a write is for none.
-pub fn target_of(packet: &Packet) -> Option<u8>
-    ensures { result ≡ target packet.now }
-{
-    match packet {
-        Packet::Message { to, .. } => Some(to.number()),
-        Packet::Credit { to, .. } => Some(to.number()),
-        Packet::Read { .. } => None,
-        Packet::Write { .. } => None,
-        Packet::Answer { id, .. } => Some(id.issuer),
-        Packet::Install { to, .. } => Some(to.number()),
-        Packet::Close { to, .. } => Some(to.number()),
-    }
-}
-
-/// The grant of a credit.
-fn credit_of(packet: &Packet) -> Option<GrantId>
-    ensures { result ≡ credit_of packet.now }
-{
-    match packet {
-        Packet::Credit { grant, .. } => Some(*grant),
-        _ => None,
-    }
-}
-
 /// The parcel, to the kernel.
 fn to_kernel(parcel: Parcel) -> Option<Emit>
     ensures { out_of result ≡ (0, parcel_of parcel) ∷ [] }
@@ -171,40 +147,20 @@ fn closed_if(grant: &Option<GrantId>) -> Option<Emit>
     }
 }
 
-/// What is said of a credit, and whether an endpoint took it.
-fn said_of_credit(id: FlightId, credit: Option<GrantId>, taken: bool) -> Said
-    requires { IsSome credit }
-    ensures { result ≡ said_credit id credit taken }
+/// What is told of a packet that came, and what goes out: its answer, or that an endpoint became free.
+fn lands(site: &Site, came: Came) -> TileDid
+    requires { AtMostOne came.answer came.freed }
+    ensures outcome { result.outcome ≡ plain came.said }
+    ensures out { out_of result.emit ≡ new_out site.now came.answer ++ closed_out came.freed }
 {
-    match credit {
-        None => unreachable!(),
-        Some(grant) => {
-            if taken {
-                Said::Credited(id, grant)
-            } else {
-                Said::Discarded(id, grant)
-            }
-        }
-    }
-}
-
-/// What came of a packet of this name, and of this grant where it is a credit.
-fn came(site: &Site, id: FlightId, credit: Option<GrantId>, arrived: Arrived) -> TileDid
-    requires { NamesCredit credit arrived }
-    ensures outcome { result.outcome ≡ plain (said_came id credit arrived) }
-    ensures out { out_of result.emit ≡ out_came site.now arrived }
-{
-    match arrived {
-        Arrived::Landed(answer) => says(Said::Landed(id), sent(site, answer)),
-        Arrived::Refused(why, answer) => says(Said::LandRefused(id, why), sent(site, answer)),
-        Arrived::Answered(id, answer, closed) => {
-            let out = closed_if(&closed);
-            says(Said::Answered { id, answer, closed }, out)
-        }
-        Arrived::Credited(taken) => says(said_of_credit(id, credit, taken), None),
-        Arrived::Installed(grant) => says(Said::Installed(id, grant), None),
-        Arrived::Closing(grant) => says(Said::Closing(id, grant), None),
-        Arrived::Closed(grant) => says(Said::Closed(id, grant), closed(grant)),
+    let Came {
+        said,
+        answer,
+        freed,
+    } = came;
+    match answer {
+        Some(answer) => says(said, sent(site, answer)),
+        None => says(said, closed_if(&freed)),
     }
 }
 
@@ -215,10 +171,7 @@ fn land(site: &Site, context: &mut Context, packet: Packet) -> TileDid
     if !site.names(&packet) || !context.fits(&packet) {
         return is_idle(IdleWhy::EmptyLink);
     }
-    let id = packet.id();
-    let credit = credit_of(&packet);
-    let arrived = context.arrive(packet);
-    came(site, id, credit, arrived)
+    lands(site, meet(context, packet))
 }
 
 fn is_among(acts: &[ActId], act: ActId) -> bool
