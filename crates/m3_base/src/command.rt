@@ -1,10 +1,12 @@
 //! Commands of an activity, and what it is told of them.
 
 ghost use Rattle.std.specs.Prelude.{◌≡◌, IfOk};
-ghost use Rattle.m3_base.specs.Issue.{flies_always};
+ghost use Rattle.m3_base.specs.Ideal.Issue.{flies_always};
 ghost use Rattle.m3_base.specs.Limits.{is_short};
+ghost use Rattle.m3_base.specs.RefusalCodes.{refusal_code, refusal_name};
 
 use crate::ids::{EpId, FlightId};
+use crate::limits::MOST_PAYLOAD;
 use crate::message::Message;
 use crate::payload::Payload;
 use std::alloc::{AllocError, Global};
@@ -96,9 +98,9 @@ impl Command {
         ensures { result ≡ is_short self.now }
     {
         match self {
-            Command::Send { payload, .. } => payload.len() <= 8192,
-            Command::Reply { payload, .. } => payload.len() <= 8192,
-            Command::Write { payload, .. } => payload.len() <= 8192,
+            Command::Send { payload, .. } => payload.len() <= MOST_PAYLOAD,
+            Command::Reply { payload, .. } => payload.len() <= MOST_PAYLOAD,
+            Command::Write { payload, .. } => payload.len() <= MOST_PAYLOAD,
             _ => true,
         }
     }
@@ -138,6 +140,44 @@ pub enum Refusal {
     NoSuchToken,
     /// A send names a reply endpoint that isn't a live receive record.
     BadReplyEndpoint,
+}
+
+impl Refusal {
+    /// Its code, 1 to 10.
+    pub fn code(self) -> u8
+        ensures { result ≡ refusal_code self }
+    {
+        match self {
+            Refusal::NoEndpoint => 1,
+            Refusal::NoCredits => 2,
+            Refusal::TooLarge => 3,
+            Refusal::Revoked => 4,
+            Refusal::Full => 5,
+            Refusal::OutOfRange => 6,
+            Refusal::NoPermission => 7,
+            Refusal::NoReplyWanted => 8,
+            Refusal::NoSuchToken => 9,
+            Refusal::BadReplyEndpoint => 10,
+        }
+    }
+
+    /// Its name, as journals print it behind the code.
+    pub fn name(self) -> &'static str
+        ensures { result.now ≡ refusal_name self }
+    {
+        match self {
+            Refusal::NoEndpoint => "no-endpoint",
+            Refusal::NoCredits => "no-credits",
+            Refusal::TooLarge => "too-large",
+            Refusal::Revoked => "revoked",
+            Refusal::Full => "full",
+            Refusal::OutOfRange => "out-of-range",
+            Refusal::NoPermission => "no-permission",
+            Refusal::NoReplyWanted => "no-reply-wanted",
+            Refusal::NoSuchToken => "no-such-token",
+            Refusal::BadReplyEndpoint => "bad-reply-endpoint",
+        }
+    }
 }
 
 /// The answer to a command that flew.

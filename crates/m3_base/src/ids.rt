@@ -1,7 +1,9 @@
 //! The numbers that name activities, tiles, endpoints, grants and flights.
 
-ghost use Rattle.std.specs.Prelude.{◌≡◌, ℕ, ◌<◌, ◌≤◌};
+ghost use Rattle.std.specs.Prelude.{◌≡◌, ℕ, ◌+◌, ◌*◌, ◌<◌, ◌≤◌};
 
+use crate::limits::{ENDPOINTS, KERNEL, MOST_TILES};
+use std::fmt;
 use std::marker::Model;
 
 /// An activity, 0 to 63. Contracts see its number.
@@ -37,6 +39,16 @@ impl ActId {
         ensures range { result < 64 }
     {
         self.number
+    }
+}
+
+impl fmt::Display for ActId {
+    ghost use Rattle.std.specs.Prelude.{Some, decimal};
+
+    ghost output = { λ n. Some (decimal n) };
+
+    fn fmt<W: fmt::Write>(&self, f: &mut fmt::Formatter<W>) -> fmt::Result {
+        write!(f, "{}", self.number)
     }
 }
 
@@ -76,6 +88,16 @@ impl TileId {
     }
 }
 
+impl fmt::Display for TileId {
+    ghost use Rattle.std.specs.Prelude.{Some, decimal};
+
+    ghost output = { λ n. Some (decimal n) };
+
+    fn fmt<W: fmt::Write>(&self, f: &mut fmt::Formatter<W>) -> fmt::Result {
+        write!(f, "{}", self.number)
+    }
+}
+
 /// An endpoint of an activity, 0 to 15. Contracts see its number.
 #[derive(Clone, Copy, Debug, PartialEq, Eq, PartialOrd, Ord, Drop)]
 pub struct EpId {
@@ -109,6 +131,16 @@ impl EpId {
         ensures range { result < 16 }
     {
         self.number
+    }
+}
+
+impl fmt::Display for EpId {
+    ghost use Rattle.std.specs.Prelude.{Some, decimal};
+
+    ghost output = { λ n. Some (decimal n) };
+
+    fn fmt<W: fmt::Write>(&self, f: &mut fmt::Formatter<W>) -> fmt::Result {
+        write!(f, "{}", self.number)
     }
 }
 
@@ -150,9 +182,54 @@ impl GrantId {
     }
 }
 
+impl fmt::Display for GrantId {
+    ghost use Rattle.std.specs.Prelude.{Some, decimal};
+
+    ghost output = { λ n. Some (decimal n) };
+
+    fn fmt<W: fmt::Write>(&self, f: &mut fmt::Formatter<W>) -> fmt::Result {
+        write!(f, "{}", self.number)
+    }
+}
+
 /// The name of a flight: its issuer, an activity's number or 64 for the kernel, and its number there, from 1.
 #[derive(Clone, Copy, Debug, PartialEq, Eq, PartialOrd, Ord, Drop)]
 pub struct FlightId {
     pub issuer: u8,
     pub number: u32,
+}
+
+impl fmt::Display for FlightId {
+    ghost use Rattle.std.specs.Prelude.{Some};
+    ghost use Rattle.m3_base.specs.Display.{flight_text};
+
+    ghost output = { λ id. Some (flight_text id) };
+
+    fn fmt<W: fmt::Write>(&self, f: &mut fmt::Formatter<W>) -> fmt::Result {
+        if self.issuer == KERNEL {
+            write!(f, "k.{}", self.number)
+        } else {
+            write!(f, "{}.{}", self.issuer, self.number)
+        }
+    }
+}
+
+/// Where an activity's endpoint stands in a table of all endpoints.
+pub fn endpoint_index(act: ActId, ep: EpId) -> usize
+    ensures at { result ≡ 16 * act + ep }
+    ensures range { result < 1024 }
+    ensures act { act < 64 }
+    ensures ep { ep < 16 }
+{
+    ENDPOINTS * act.number() as usize + ep.number() as usize
+}
+
+/// Where the link from one tile to another stands in a table of all links.
+pub fn link_index(from: TileId, to: TileId) -> usize
+    ensures at { result ≡ 16 * from + to }
+    ensures range { result < 256 }
+    ensures from { from < 16 }
+    ensures to { to < 16 }
+{
+    MOST_TILES as usize * from.number() as usize + to.number() as usize
 }

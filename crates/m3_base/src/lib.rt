@@ -3,9 +3,11 @@
 
 pub mod command;
 pub mod event;
+pub mod grants;
 pub mod ids;
 pub mod journal;
-pub mod memory_ends;
+pub mod limits;
+pub mod memory_streams;
 pub mod message;
 pub mod order;
 pub mod packet;
@@ -13,8 +15,6 @@ pub mod payload;
 pub mod program;
 pub mod setup;
 pub mod setup_line;
-pub mod standard_ends;
+pub mod standard_streams;
 pub mod step;
 pub mod stream;
-#[cfg(test)]
-mod tests;

@@ -1,7 +1,7 @@
 //! Messages.
 
 ghost use Rattle.std.specs.Prelude.{◌≡◌};
-ghost use Rattle.m3_base.specs.Land.{message_id};
+ghost use Rattle.m3_base.specs.Ideal.Landing.{message_id};
 
 use crate::ids::{ActId, FlightId};
 use crate::payload::Payload;

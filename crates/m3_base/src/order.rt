@@ -1,10 +1,11 @@
 //! What the kernel is asked: grants, revokes, switches, and lines on files.
 
 ghost use Rattle.std.specs.Prelude.{◌≡◌};
-ghost use Rattle.m3_base.specs.State.{holder, holder_ep, parent_of};
+ghost use Rattle.m3_base.specs.Ideal.State.{holder, holder_ep, parent_of};
 ghost use Rattle.m3_base.specs.Limits.{is_in_limits};
 
 use crate::ids::{ActId, EpId, GrantId, TileId};
+use crate::limits::{MOST_CREDITS, MOST_MESSAGE, MOST_SLOTS};
 use crate::packet::Perm;
 use crate::payload::Name;
 
@@ -87,9 +88,9 @@ impl GrantLine {
     {
         match self {
             GrantLine::Recv { slots, size, .. } => {
-                1 <= *slots && *slots <= 32 && (1 <= *size && *size <= 512)
+                1 <= *slots && *slots <= MOST_SLOTS && (1 <= *size && *size <= MOST_MESSAGE)
             }
-            GrantLine::Send { credits, .. } => 1 <= *credits && *credits <= 32,
+            GrantLine::Send { credits, .. } => 1 <= *credits && *credits <= MOST_CREDITS,
             GrantLine::Range { len, .. } => 0 < *len,
             GrantLine::Part { len, .. } => 0 < *len,
         }

@@ -1,9 +1,9 @@
 //! What flies: packets, and the records that the kernel installs.
 
 ghost use Rattle.std.specs.Prelude.{◌≡◌};
-ghost use Rattle.m3_base.specs.Flight.{name_of};
-ghost use Rattle.m3_base.specs.Issue.{may_read, may_write};
-ghost use Rattle.m3_base.specs.Grants.{is_within_perm};
+ghost use Rattle.m3_base.specs.Ideal.Flights.{name_of};
+ghost use Rattle.m3_base.specs.Ideal.Issue.{may_read, may_write};
+ghost use Rattle.m3_base.specs.Ideal.GrantRules.{is_within_perm};
 
 use crate::command::Answer;
 use crate::ids::{ActId, EpId, FlightId, GrantId};

@@ -2,8 +2,8 @@
 
 ghost use Rattle.std.specs.Prelude.{◌≡◌, ℕ, ◌<◌, ◌≤◌, List, length, IfOk};
 ghost use Rattle.std.specs.Borrow.{sem};
-ghost use Rattle.m3_base.specs.Names.{IsName};
-ghost use Rattle.m3_base.specs.PayloadLends.{lends_bytes};
+ghost use Rattle.m3_base.specs.FileName.{IsName};
+ghost use Rattle.m3_base.specs.PayloadView.{lends_bytes};
 
 use std::alloc::{AllocError, Global};
 use std::marker::Model;
@@ -70,7 +70,7 @@ pub struct Name {
 
 impl Model for Name {
     ghost use Rattle.std.specs.Prelude.{ℕ, List};
-    ghost use Rattle.m3_base.specs.Names.{IsName};
+    ghost use Rattle.m3_base.specs.FileName.{IsName};
 
     ghost Value = { List ℕ };
 
@@ -88,7 +88,7 @@ impl Name {
         Name { bytes }
     }
     /// The text of the name.
-    #[tactic(auto, using(crate::proofs::Ascii::name_is_utf8))]
+    #[tactic(auto, using(crate::proofs::FileNameUtf8::name_is_utf8))]
     pub fn text(&self) -> &str
         ensures { result.now ≡ self.now }
     {

@@ -5,10 +5,12 @@ mod grants;
 mod refusal;
 
 ghost use Rattle.std.specs.Prelude.{◌≡◌, ℕ, List, [], ◌∷◌, ◌++◌, true, false, None, Some, IfOk, OnOk, OnErr, Err, ◌↔◌, is_some};
-ghost use Rattle.m3_base.specs.Setup.{SetupValue, IsValid, facts_of, is_machine, refuses, home_in, program_in, fresh_in};
-ghost use Rattle.m3_base.specs.State.{grant_in};
+ghost use Rattle.m3_base.specs.Setup.Rules.{SetupValue, IsValid, facts_of, is_machine, breaks_rule, home_in, program_in};
+ghost use Rattle.m3_base.specs.Ideal.GrantRules.{fresh_of};
+ghost use Rattle.m3_base.specs.Ideal.State.{grant_in};
 
 use crate::ids::{ActId, GrantId, TileId};
+use crate::limits::{LEAST_TILES, MOST_MEMORY, MOST_TILES};
 use crate::packet::Fresh;
 use crate::setup_line::{ProgramKind, SetupLine};
 use facts::SetupFacts;
@@ -24,11 +26,11 @@ pub struct Setup {
 }
 
 impl Model for Setup {
-    ghost use Rattle.m3_base.specs.Setup.{SetupValue};
+    ghost use Rattle.m3_base.specs.Setup.Rules.{SetupValue};
 
     ghost Value = { SetupValue };
 
-    ghost use Rattle.m3_base.specs.SetupFacts.{setup_in, IsSetup};
+    ghost use Rattle.m3_base.specs.Setup.View.{setup_in, IsSetup};
 
     ghost view = { setup_in };
 
@@ -42,7 +44,10 @@ impl Setup {
         ensures ok { IfOk result (λ s. s ≡ record { tiles = tiles; memory = memory; lines = [] }) }
         ensures rule { result ≡ Err SetupRefusal.Rule ↔ is_machine tiles memory ≡ false }
     {
-        if !(3 <= tiles && tiles <= 16 && (1 <= memory && memory <= 1048576)) {
+        if !(LEAST_TILES <= tiles
+            && tiles <= MOST_TILES
+            && (1 <= memory && memory <= MOST_MEMORY))
+        {
             return Err(SetupRefusal::Rule);
         }
         match SetupFacts::new(alloc, tiles, memory) {
@@ -59,25 +64,25 @@ impl Setup {
     pub fn add(&mut self, line: SetupLine) -> Result<(), SetupRefusal>
         ensures ok { OnOk result (self.new ≡ record self.old { lines = self.old.lines ++ line ∷ [] }) }
         ensures kept { OnErr result (self.new ≡ self.old) }
-        ensures rule { result ≡ Err SetupRefusal.Rule ↔ refuses line (facts_of self.old) ≡ true }
+        ensures rule { result ≡ Err SetupRefusal.Rule ↔ breaks_rule line (facts_of self.old) ≡ true }
     {
         if self.facts.refuses(&line) {
             return Err(SetupRefusal::Rule);
         }
-        match self.keep(line) {
+        match self.append(line) {
             Ok(()) => Ok(()),
             Err(_) => Err(SetupRefusal::NoMemory),
         }
     }
 
     // Adds a line that isn't refused.
-    fn keep(&mut self, line: SetupLine) -> Result<(), AllocError>
-        requires { refuses line (facts_of self.old) ≡ false }
+    fn append(&mut self, line: SetupLine) -> Result<(), AllocError>
+        requires { breaks_rule line (facts_of self.old) ≡ false }
         ensures ok { OnOk result (self.new ≡ record self.old { lines = self.old.lines ++ line ∷ [] }) }
         ensures kept { OnErr result (self.new ≡ self.old) }
     {
         self.lines.reserve(1)?;
-        self.facts.note(&line)?;
+        self.facts.add_line(&line)?;
         self.lines.push_reserved(line);
         Ok(())
     }
@@ -120,7 +125,7 @@ impl Setup {
 
     /// The record that the grant of this number begins with; None where the lines have fewer grants.
     pub fn fresh(&self, g: GrantId) -> Option<Fresh>
-        ensures { result ≡ fresh_in (grant_in (facts_of self.now).grants g) }
+        ensures { result ≡ fresh_of (grant_in (facts_of self.now).grants g) }
     {
         self.facts.fresh(g)
     }

@@ -3,8 +3,8 @@
 ghost use Rattle.std.specs.Prelude.{◌≡◌, ℕ, ◌<◌, ◌≤◌, List, Option, length, OnOk, OnErr, IfOk, Err};
 ghost use Rattle.std.specs.Io.{ReadsAtMost};
 ghost use Rattle.std.specs.Io.KnownBytes.{ReadConsumes};
-ghost use Rattle.m3_base.specs.Causes.{Rose, HasCause, Writes, Appends, AppendsSome, ReadsAll, JudgesLength};
-ghost use Rattle.m3_base.specs.Lists.{items_of};
+ghost use Rattle.m3_base.specs.Io.Streams.{Rose, HasCause, Writes, Appends, AppendsSome, ReadsAll, JudgesLength};
+ghost use Rattle.m3_base.specs.Lists.ResultView.{items_of};
 
 use std::alloc::Global;
 use thiserror::Error;

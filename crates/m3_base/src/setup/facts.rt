@@ -3,12 +3,15 @@
 ghost use Rattle.std.specs.Prelude.{◌≡◌, ℕ, ◌+◌, ◌*◌, ◌<◌, ◌≤◌, true, false, Some, None, ◌||◌, nat_lt, ◌++◌, ◌∷◌, [], length, slice_set, IfOk, OnOk, OnErr};
 ghost use Rattle.std.specs.List.{list_any};
 ghost use Rattle.m3_base.specs.Limits.{is_within};
-ghost use Rattle.m3_base.specs.Setup.{no_lines, home_in, program_in, chunks, noted, refuses, is_undeclared, is_taken, is_pipe, is_fuel, is_machine, InRange, bars_writer, programmed, grant_added, fresh_in};
-ghost use Rattle.m3_base.specs.Grants.{make_refusal};
-ghost use Rattle.m3_base.specs.State.{holder, holder_ep, grant_in};
+ghost use Rattle.m3_base.specs.Setup.Rules.{no_lines, home_in, program_in, chunks, facts_with_line, breaks_rule, is_undeclared, is_taken, is_pipe, is_fuel, is_machine, InRange, forbids_writer, facts_with_program, grant_added};
+ghost use Rattle.m3_base.specs.Ideal.GrantRules.{make_refusal, fresh_of};
+ghost use Rattle.m3_base.specs.Ideal.State.{holder, holder_ep, grant_in};
 
 use super::grants::SetupGrants;
 use crate::ids::{ActId, GrantId, TileId};
+use crate::limits::{
+    MOST_ACTIVITIES, MOST_CHUNK, MOST_FUEL, MOST_QUANTUM, MOST_RING, MOST_WEIGHT, MOST_WRITER_BYTES,
+};
 use crate::order::GrantLine;
 use crate::packet::Fresh;
 use crate::setup_line::{ProgramKind, SetupLine};
@@ -31,11 +34,11 @@ pub struct SetupFacts {
 }
 
 impl Model for SetupFacts {
-    ghost use Rattle.m3_base.specs.Setup.{Facts};
+    ghost use Rattle.m3_base.specs.Setup.Rules.{Facts};
 
     ghost Value = { Facts };
 
-    ghost use Rattle.m3_base.specs.SetupFacts.{facts_in, IsFacts};
+    ghost use Rattle.m3_base.specs.Setup.View.{facts_in, IsFacts};
 
     ghost view = { facts_in };
 
@@ -62,7 +65,7 @@ fn is_within(least: u16, most: u16, n: u16) -> bool
 fn is_pipe(chunk: u16, ring: u8) -> bool
     ensures { result ≡ is_pipe chunk ring }
 {
-    is_within(1, 4096, chunk) && is_within(1, 32, ring as u16)
+    is_within(1, MOST_CHUNK, chunk) && is_within(1, MOST_RING, ring as u16)
 }
 
 fn is_taken(before: ProgramKind, kind: ProgramKind) -> bool
@@ -82,9 +85,9 @@ impl SetupFacts {
         ensures { IfOk result (λ f. f ≡ no_lines tiles memory) }
     {
         let mut homes = Vec::new(alloc);
-        homes.resize(64, None)?;
+        homes.resize(MOST_ACTIVITIES, None)?;
         let mut programs = Vec::new(alloc);
-        programs.resize(64, ProgramKind::Absent)?;
+        programs.resize(MOST_ACTIVITIES, ProgramKind::Absent)?;
         let grants = SetupGrants::new(alloc)?;
         Ok(SetupFacts {
             tiles,
@@ -119,7 +122,7 @@ impl SetupFacts {
 
     /// The record that the grant of this number begins with.
     pub fn fresh(&self, g: GrantId) -> Option<Fresh>
-        ensures { result ≡ fresh_in (grant_in self.now.grants g) }
+        ensures { result ≡ fresh_of (grant_in self.now.grants g) }
     {
         self.grants.fresh(g)
     }
@@ -139,24 +142,24 @@ impl SetupFacts {
     }
 
     // Whether the activity may have no such program, or none of this weight.
-    fn bars(&self, act: ActId, kind: ProgramKind, weight: u32) -> bool
+    fn forbids_program(&self, act: ActId, kind: ProgramKind, weight: u32) -> bool
         ensures { result ≡ (is_undeclared act self.now || (is_taken (program_in self.now.programs act) kind || nat_lt 16384 (self.now.weight + weight))) }
     {
         self.home(act).is_none()
             || is_taken(self.program(act), kind)
-            || 16384 < self.weight as u64 + weight as u64
+            || MOST_WEIGHT < self.weight as u64 + weight as u64
     }
 
     /// Whether a line is refused after these.
     pub fn refuses(&self, line: &SetupLine) -> bool
-        ensures { result ≡ refuses line.now self.now }
+        ensures { result ≡ breaks_rule line.now self.now }
     {
         match line {
             SetupLine::Act { act, tile } => {
                 let tile = tile.number();
                 self.home(*act).is_some() || !(2 <= tile && tile < self.tiles)
             }
-            SetupLine::Quantum(q) => self.has_quantum || !is_within(1, 64, *q as u16),
+            SetupLine::Quantum(q) => self.has_quantum || !is_within(1, MOST_QUANTUM, *q as u16),
             SetupLine::Grant(line) => {
                 self.home(line.act()).is_none()
                     || !line.is_in_limits()
@@ -164,16 +167,16 @@ impl SetupFacts {
             }
             SetupLine::Files(g) => self.has_files || !self.grants.may_hold_files(*g),
             SetupLine::Item(act, command) => {
-                !command.is_short() || self.bars(*act, ProgramKind::Listed, 1)
+                !command.is_short() || self.forbids_program(*act, ProgramKind::Listed, 1)
             }
-            SetupLine::AwaitItem(act, _) => self.bars(*act, ProgramKind::Listed, 1),
+            SetupLine::AwaitItem(act, _) => self.forbids_program(*act, ProgramKind::Listed, 1),
             SetupLine::Writer {
                 act,
                 chunk,
                 ring,
                 bytes,
                 ..
-            } => self.refuses_writer(*act, *chunk, *ring, bytes.len()),
+            } => self.forbids_writer(*act, *chunk, *ring, bytes.len()),
             SetupLine::Reader {
                 act,
                 chunk,
@@ -181,24 +184,24 @@ impl SetupFacts {
                 fuel,
                 ..
             } => {
-                !(is_pipe(*chunk, *ring) && is_within(1, 16384, *fuel))
-                    || self.bars(*act, ProgramKind::Single, *fuel as u32)
+                !(is_pipe(*chunk, *ring) && is_within(1, MOST_FUEL, *fuel))
+                    || self.forbids_program(*act, ProgramKind::Single, *fuel as u32)
             }
             SetupLine::Boxed { act, logic, fuel } => {
-                !is_within(1, 16384, *fuel)
+                !is_within(1, MOST_FUEL, *fuel)
                     || self.boxes.contains(logic)
-                    || self.bars(*act, ProgramKind::Single, *fuel as u32)
+                    || self.forbids_program(*act, ProgramKind::Single, *fuel as u32)
             }
         }
     }
 
-    fn refuses_writer(&self, act: ActId, chunk: u16, ring: u8, bytes: usize) -> bool
-        ensures { result ≡ bars_writer act chunk ring bytes self.now }
+    fn forbids_writer(&self, act: ActId, chunk: u16, ring: u8, bytes: usize) -> bool
+        ensures { result ≡ forbids_writer act chunk ring bytes self.now }
     {
-        if !is_pipe(chunk, ring) || 65536 < bytes {
+        if !is_pipe(chunk, ring) || MOST_WRITER_BYTES < bytes {
             return true;
         }
-        self.bars(act, ProgramKind::Single, writer_weight(chunk, bytes))
+        self.forbids_program(act, ProgramKind::Single, writer_weight(chunk, bytes))
     }
 
     fn declare(&mut self, act: ActId, tile: TileId)
@@ -223,7 +226,7 @@ impl SetupFacts {
 
     fn add_program(&mut self, act: ActId, kind: ProgramKind, weight: u32)
         requires { self.old.weight + weight ≤ 16384 }
-        ensures facts { self.new ≡ programmed act kind weight self.old }
+        ensures facts { self.new ≡ facts_with_program act kind weight self.old }
         ensures range { act < 64 }
     {
         let at = act.number() as usize;
@@ -253,10 +256,10 @@ impl SetupFacts {
         self.grants.add(self.memory, line)
     }
 
-    /// Adds what this line says, which isn't refused. After want of memory nothing has changed.
-    pub fn note(&mut self, line: &SetupLine) -> Result<(), AllocError>
-        requires { refuses line.now self.old ≡ false }
-        ensures noted { OnOk result (self.new ≡ noted line.now self.old) }
+    /// Adds what this line says, which isn't refused. Where no memory is left, nothing has changed.
+    pub fn add_line(&mut self, line: &SetupLine) -> Result<(), AllocError>
+        requires { breaks_rule line.now self.old ≡ false }
+        ensures noted { OnOk result (self.new ≡ facts_with_line line.now self.old) }
         ensures kept { OnErr result (self.new ≡ self.old) }
         ensures range { OnOk result (InRange line.now) }
     {

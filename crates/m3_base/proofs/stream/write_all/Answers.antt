@@ -1,5 +1,5 @@
 use Rattle.std.proofs.Common.{rules}
-use Rattle.m3_base.proofs.SoFar.{so_far_rest, so_far_some}
+use Rattle.m3_base.proofs.StreamLoops.{so_far_rest, so_far_some}
 use Rattle.m3_base.proofs.stream.write_all.Goals as goal
 
 pub loop-rest-preserved : goal.loop-rest-preserved

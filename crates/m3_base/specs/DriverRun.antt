@@ -1,0 +1,4 @@
+pub mod Budget
+pub mod Configuration
+pub mod Choices
+pub mod Rows

@@ -1,0 +1,4 @@
+pub mod Driver
+pub mod Ideal
+pub mod Placement
+pub mod Scripts

@@ -1,0 +1,14 @@
+pub mod Arrival
+pub mod Context
+pub mod Credits
+pub mod Acceptance
+pub mod Flights
+pub mod GrantRules
+pub mod Issue
+pub mod Landing
+pub mod MessageTraces
+pub mod Opening
+pub mod ReceiveRecord
+pub mod State
+pub mod Step
+pub mod FlightNames

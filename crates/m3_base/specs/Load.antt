@@ -1,0 +1,4 @@
+pub mod Payloads
+pub mod Setup
+pub mod Summary
+pub mod Rows

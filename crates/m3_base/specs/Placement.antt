@@ -1,0 +1,12 @@
+pub mod Driver
+pub mod EntryStep
+pub mod State
+pub mod Routing
+pub mod Landing
+pub mod Take
+pub mod Tend
+pub mod Order
+pub mod Command
+pub mod Turn
+pub mod Step
+pub mod Opening
