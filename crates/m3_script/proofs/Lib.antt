@@ -1,3 +1,10 @@
-pub mod Few
-pub mod Loop
-pub mod Kept
+pub mod NumbersAgain
+pub mod OtherWords
+pub mod CommandsAgain
+pub mod GrantsAgain
+pub mod SetupsAgain
+pub mod EventsAgain
+pub mod Built
+pub mod WordLimit
+pub mod NamedEvents
+pub mod LineLoop

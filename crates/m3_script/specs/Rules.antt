@@ -5,8 +5,8 @@ use Rattle.m3_base.specs.declared.event.Event.{Event}
 use Rattle.m3_base.specs.declared.order.Order.{Order}
 use Rattle.m3_base.specs.declared.order.FileLine.{FileLine}
 use Rattle.m3_base.specs.declared.setup_line.SetupLine.{SetupLine}
-use Rattle.m3_base.specs.State.{holder}
-use Rattle.m3_base.specs.Setup.{SetupValue, facts_of, is_undeclared, is_programmed, program_in}
+use Rattle.m3_base.specs.Ideal.State.{holder}
+use Rattle.m3_base.specs.Setup.Rules.{SetupValue, facts_of, is_undeclared, is_programmed, program_in}
 use Rattle.m3_script.specs.declared.script.Mode.{Mode}
 
 -- ---- setup lines
@@ -30,26 +30,26 @@ is_allowed Mode.Run events event = true
 is_allowed mode events (Event.Order order) = nat_lt (length events) 4096
 is_allowed mode events event = false
 
-abbrev pub order_misses : Order → SetupValue → Bool
-order_misses (Order.Switch t a) x = not (nat_lt t x.tiles) || is_absent a x
-order_misses (Order.Grant line) x = is_absent (holder line) x
-order_misses (Order.Revoke g) x = false
+abbrev pub order_names_undeclared : Order → SetupValue → Bool
+order_names_undeclared (Order.Switch t a) x = not (nat_lt t x.tiles) || is_absent a x
+order_names_undeclared (Order.Grant line) x = is_absent (holder line) x
+order_names_undeclared (Order.Revoke g) x = false
 
-abbrev pub file_misses : FileLine → SetupValue → Bool
-file_misses (FileLine.Open name off a ep perm) x = is_absent a x
-file_misses line x = false
+abbrev pub file_names_undeclared : FileLine → SetupValue → Bool
+file_names_undeclared (FileLine.Open name off a ep perm) x = is_absent a x
+file_names_undeclared line x = false
 
 -- whether the setup has no such tile or activity as the event names; a do needs one without a program, and a turn
 -- one with a program
-abbrev pub misses : Event → SetupValue → Bool
-misses (Event.Do a command) x = is_absent a x || has_program a x
-misses (Event.Turn a) x = is_absent a x || not (has_program a x)
-misses (Event.Take to from) x = not (nat_lt to x.tiles && nat_lt from x.tiles)
-misses (Event.Tend a) x = is_absent a x
-misses Event.Close x = false
-misses (Event.Order order) x = order_misses order x
-misses (Event.File line) x = file_misses line x
+abbrev pub names_undeclared : Event → SetupValue → Bool
+names_undeclared (Event.Do a command) x = is_absent a x || has_program a x
+names_undeclared (Event.Turn a) x = is_absent a x || not (has_program a x)
+names_undeclared (Event.Take to from) x = not (nat_lt to x.tiles && nat_lt from x.tiles)
+names_undeclared (Event.Tend a) x = is_absent a x
+names_undeclared Event.Close x = false
+names_undeclared (Event.Order order) x = order_names_undeclared order x
+names_undeclared (Event.File line) x = file_names_undeclared line x
 
 -- each event names what the setup has
 abbrev pub AllNamed : SetupValue → List Event → Type 0
-AllNamed x events = All (λ e. misses e x ≡ false) events
+AllNamed x events = All (λ e. names_undeclared e x ≡ false) events

@@ -1,16 +1,19 @@
 //! Lines of scripts, by their words.
 
-ghost use Rattle.std.specs.Prelude.{◌≡◌, length};
+ghost use Rattle.std.specs.Prelude.{◌≡◌};
 ghost use Rattle.m3_text.specs.Lines.{texts};
-ghost use Rattle.m3_text.specs.Reads.{Gives};
-ghost use Rattle.m3_script.specs.Forms.{line_of, is_grant, later_of};
+ghost use Rattle.m3_text.specs.Refusable.{Gives};
+ghost use Rattle.m3_script.specs.LineForms.{line_of, opening_of};
 
-use crate::events::read_event;
-use crate::setups::{read_act_line, read_grant_line, read_machine};
+use crate::events::{read_do, read_take, read_tend};
+use crate::grants::read_grant_line;
+use crate::orders::read_switch;
+use crate::setups::{read_act_line, read_machine};
 use m3_base::event::Event;
 use m3_base::setup_line::SetupLine;
+use m3_text::hexes::HexCase;
 use m3_text::refusal::LineRefusal;
-use m3_text::shapes::{begins, fits};
+use m3_text::shapes::{count_test, cut_first};
 use std::alloc::Global;
 
 /// What a line says.
@@ -22,39 +25,40 @@ pub enum Line {
     Event(Event),
 }
 
-/// The line of these words.
-#[tactic(auto, unfolding(crate::specs::Forms::line_of))]
+/// The line of these words. The forms that are built have a branch here or in `read_opening`; the words of any other
+/// fit no form.
+#[tactic(auto, unfolding(crate::specs::LineForms::line_of))]
 pub fn read_words(alloc: Global, words: &[&[u8]]) -> Result<Line, LineRefusal>
     ensures { Gives (λ l. l) result (line_of (texts words.now)) }
 {
-    if fits(&[b"machine", b"tiles", b"", b"memory", b""], words) {
-        read_machine(words)
-    } else if fits(&[b"act", b"", b"tile", b""], words) {
-        read_act_line(words)
-    } else if fits(&[b"begin"], words) {
-        Ok(Line::Begin)
+    let (first, rest) = cut_first(words);
+    if first == b"take".as_slice() {
+        Ok(Line::Event(read_take(rest)?))
+    } else if first == b"do".as_slice() {
+        Ok(Line::Event(read_do(alloc, HexCase::Either, rest)?))
+    } else if first == b"tend".as_slice() {
+        Ok(Line::Event(read_tend(rest)?))
+    } else if first == b"switch".as_slice() {
+        Ok(Line::Event(Event::Order(read_switch(rest)?)))
     } else {
-        read_later(alloc, words)
+        read_opening(words)
     }
 }
 
-#[tactic(auto, unfolding(crate::specs::Forms::is_grant))]
-fn is_grant(words: &[&[u8]]) -> bool
-    ensures { result ≡ is_grant (texts words.now) }
+#[tactic(auto, unfolding(crate::specs::LineForms::opening_of))]
+fn read_opening(words: &[&[u8]]) -> Result<Line, LineRefusal>
+    ensures { Gives (λ l. l) result (opening_of (texts words.now)) }
 {
-    begins(&[b"recv"], words)
-        || begins(&[b"send"], words)
-        || begins(&[b"range"], words)
-        || begins(&[b"part"], words)
-}
-
-#[tactic(auto, unfolding(crate::specs::Forms::later_of))]
-fn read_later(alloc: Global, words: &[&[u8]]) -> Result<Line, LineRefusal>
-    ensures { Gives (λ l. l) result (later_of (texts words.now)) }
-{
-    if is_grant(words) {
-        Ok(Line::Setup(SetupLine::Grant(read_grant_line(words)?)))
+    let (first, rest) = cut_first(words);
+    if first == b"machine".as_slice() {
+        let (tiles, memory) = read_machine(rest)?;
+        Ok(Line::Machine { tiles, memory })
+    } else if first == b"act".as_slice() {
+        Ok(Line::Setup(read_act_line(rest)?))
+    } else if first == b"begin".as_slice() {
+        count_test(rest, 0)?;
+        Ok(Line::Begin)
     } else {
-        Ok(Line::Event(read_event(alloc, words)?))
+        Ok(Line::Setup(SetupLine::Grant(read_grant_line(words)?)))
     }
 }

@@ -2,8 +2,8 @@
 
 ghost use Rattle.std.specs.Prelude.{◌≡◌, ◌≤◌, length, IfOk};
 ghost use Rattle.m3_script.specs.Rules.{AllNamed};
-ghost use Rattle.m3_script.specs.Scripts.{script_of, ended};
-ghost use Rattle.m3_script.specs.Steps.{Parses, refusal, state};
+ghost use Rattle.m3_script.specs.ScriptText.{script_of, script_at_end};
+ghost use Rattle.m3_script.specs.ParserView.{Parses, refusal, state};
 
 use crate::reading::{Frame, Progress, take_line};
 use crate::script::{Mode, Script, ScriptRefusal};
@@ -24,8 +24,8 @@ pub fn parse(alloc: Global, bytes: &[u8], mode: Mode, boxes: u32) -> Result<Scri
     let mut line: u32 = 1;
     while !rest.is_empty() {
         let (text, after) = cut_line(rest);
-        match take_line(alloc, frame, progress, text, &mut words) {
-            Ok(next) => progress = next,
+        match take_line(alloc, frame, &mut progress, text, &mut words) {
+            Ok(()) => {}
             Err(error) => return Err(refusal(line, error)),
         }
         rest = after;
@@ -44,7 +44,7 @@ fn refusal(line: u32, error: LineRefusal) -> ScriptRefusal
 }
 
 fn finish(progress: Progress, line: u32) -> Result<Script, ScriptRefusal>
-    ensures { Parses result (ended line (state progress)) }
+    ensures { Parses result (script_at_end line (state progress)) }
 {
     match progress {
         Progress::Running(setup, events) => Ok(Script { setup, events }),

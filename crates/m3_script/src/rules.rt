@@ -1,7 +1,7 @@
 //! The rules of scripts, beside those that every setup keeps.
 
 ghost use Rattle.std.specs.Prelude.{◌≡◌, nat_lt};
-ghost use Rattle.m3_script.specs.Rules.{lacks_logic, has_program, is_absent, is_allowed, order_misses, file_misses, misses};
+ghost use Rattle.m3_script.specs.Rules.{lacks_logic, has_program, is_absent, is_allowed, order_names_undeclared, file_names_undeclared, names_undeclared};
 
 use crate::script::Mode;
 use m3_base::event::Event;
@@ -58,7 +58,7 @@ fn has_tile(setup: &Setup, tile: TileId) -> bool
 }
 
 fn order_misses(setup: &Setup, order: &Order) -> bool
-    ensures { result ≡ order_misses order.now setup.now }
+    ensures { result ≡ order_names_undeclared order.now setup.now }
 {
     match order {
         Order::Switch { tile, act } => !has_tile(setup, *tile) || is_absent(setup, *act),
@@ -68,7 +68,7 @@ fn order_misses(setup: &Setup, order: &Order) -> bool
 }
 
 fn file_misses(setup: &Setup, line: &FileLine) -> bool
-    ensures { result ≡ file_misses line.now setup.now }
+    ensures { result ≡ file_names_undeclared line.now setup.now }
 {
     match line {
         FileLine::Open { act, .. } => is_absent(setup, *act),
@@ -79,7 +79,7 @@ fn file_misses(setup: &Setup, line: &FileLine) -> bool
 /// Whether the setup has no such tile or activity as the event names, or the activity has a program at a do, or none
 /// at a turn.
 pub fn misses(setup: &Setup, event: &Event) -> bool
-    ensures { result ≡ misses event.now setup.now }
+    ensures { result ≡ names_undeclared event.now setup.now }
 {
     match event {
         Event::Do { act, .. } => is_absent(setup, *act) || has_program(setup, *act),

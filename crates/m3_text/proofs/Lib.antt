@@ -1,5 +1,8 @@
-pub mod Cuts
-pub mod Values
-pub mod Forms
-pub mod Parts
-pub mod Digits
+pub mod LinesAgain
+pub mod Visible
+pub mod ValuesAgain
+pub mod FirstLine
+pub mod HexDigits
+pub mod LineForm
+pub mod JoinedCauses
+pub mod DecimalValue

@@ -1,7 +1,9 @@
-pub mod Reads
 pub mod Lines
-pub mod Numbers
-pub mod Hexes
-pub mod Shapes
-pub mod Sides
+pub mod Flights
 pub mod Printing
+pub mod ReadBack
+pub mod Hex
+pub mod CauseOrder
+pub mod LineForm
+pub mod Refusable
+pub mod Number

@@ -2,17 +2,17 @@
 use Rattle.std.specs.Prelude.{ℕ, List, [], ◌∷◌, ◌++◌, codes, decimal, ◌==◌, if◌then◌else◌}
 use Rattle.std.specs.List.{flat_map}
 use Rattle.m3_base.specs.declared.ids.FlightId.{FlightId}
-use Rattle.m3_base.specs.Flight.{kernel}
+use Rattle.m3_base.specs.Ideal.Flights.{kernel}
 
 -- words, each behind a space
-abbrev pub spaced : List (List ℕ) → List ℕ
-spaced [] = []
-spaced (w ∷ ws) = 32 ∷ w ++ spaced ws
+abbrev pub words_text : List (List ℕ) → List ℕ
+words_text [] = []
+words_text (w ∷ ws) = 32 ∷ w ++ words_text ws
 
 -- words with single spaces between them
 abbrev pub line_text : List (List ℕ) → List ℕ
 line_text [] = []
-line_text (w ∷ ws) = w ++ spaced ws
+line_text (w ∷ ws) = w ++ words_text ws
 
 -- lines, each with its newline
 abbrev pub text_of_lines : List (List ℕ) → List ℕ

@@ -1,11 +1,11 @@
 //! Words as the values of the machine.
 
 ghost use Rattle.std.specs.Prelude.{◌≡◌};
-ghost use Rattle.m3_text.specs.Reads.{Gives};
-ghost use Rattle.m3_text.specs.Numbers.{number};
-ghost use Rattle.m3_text.specs.Hexes.{hex};
+ghost use Rattle.m3_text.specs.Refusable.{Gives};
+ghost use Rattle.m3_text.specs.Number.{number};
+ghost use Rattle.m3_text.specs.Hex.{hex_of};
 
-use crate::hexes::hex;
+use crate::hexes::{HexCase, hex_of};
 use crate::numbers::number;
 use crate::refusal::LineRefusal;
 use m3_base::ids::{ActId, EpId, GrantId, TileId};
@@ -41,8 +41,13 @@ pub fn read_grant(word: &[u8]) -> Result<GrantId, LineRefusal>
 }
 
 /// Bytes, at most `max` of them.
-pub fn read_payload(alloc: Global, word: &[u8], max: usize) -> Result<Payload, LineRefusal>
-    ensures { Gives (λ p. p) result (hex max word.now) }
+pub fn read_payload(
+    alloc: Global,
+    case: HexCase,
+    word: &[u8],
+    max: usize,
+) -> Result<Payload, LineRefusal>
+    ensures { Gives (λ p. p) result (hex_of case max word.now) }
 {
-    Ok(Payload::new(hex(alloc, word, max)?))
+    Ok(Payload::new(hex_of(alloc, case, word, max)?))
 }

@@ -3,13 +3,13 @@
 ghost use Rattle.std.specs.Prelude.{◌≡◌, ◌<◌, ◌≤◌, ◌^◌, IsTrue, IfOk};
 ghost use Rattle.std.specs.Option.{SomeIff};
 ghost use Rattle.std.specs.Str.{all_ascii_digits};
-ghost use Rattle.m3_text.specs.Reads.{Gives};
-ghost use Rattle.m3_text.specs.Numbers.{number, is_decimal, read_on};
+ghost use Rattle.m3_text.specs.Refusable.{Gives};
+ghost use Rattle.m3_text.specs.Number.{number, is_decimal, read_on};
 
 use crate::refusal::{LineRefusal, Why};
 
 /// A decimal number from `low` to `high`, with no needless zero in front.
-#[tactic(auto, unfolding(crate::specs::Numbers::number))]
+#[tactic(auto, unfolding(crate::specs::Number::number))]
 pub fn number(word: &[u8], low: u64, high: u64) -> Result<u64, LineRefusal>
     ensures value { Gives (λ n. n) result (number low high word.now) }
     ensures range { IfOk result (λ n. (low ≤ n) × (n ≤ high)) }

@@ -2,7 +2,7 @@
 
 ghost use Rattle.std.specs.Prelude.{◌≡◌, ◌<◌, ◌++◌, ◌∷◌, [], OnOk, string_bytes, slice_index};
 ghost use Rattle.hex.specs.Hex.{encode_lower, lower_digits};
-ghost use Rattle.m3_text.specs.Hexes.{hex_text};
+ghost use Rattle.m3_text.specs.Hex.{hex_text};
 ghost use Rattle.m3_text.specs.Printing.{flight_word, issuer_word};
 
 use m3_base::ids::FlightId;

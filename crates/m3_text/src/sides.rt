@@ -1,7 +1,7 @@
 //! Parts of a line, read side by side.
 
 ghost use Rattle.std.specs.Prelude.{◌≡◌};
-ghost use Rattle.m3_text.specs.Sides.{rank, earlier, joined};
+ghost use Rattle.m3_text.specs.CauseOrder.{rank, earlier, both_causes};
 
 use crate::refusal::{LineRefusal, Why};
 
@@ -22,7 +22,7 @@ pub fn both<A: Drop, B: Drop>(
     a: Result<A, LineRefusal>,
     b: Result<B, LineRefusal>,
 ) -> Result<(A, B), LineRefusal>
-    ensures { result ≡ joined a b }
+    ensures { result ≡ both_causes a b }
 {
     match (a, b) {
         (Ok(a), Ok(b)) => Ok((a, b)),

@@ -1,8 +1,8 @@
 use Rattle.std.proofs.Common.{arith}
-use Rattle.m3_script.specs.Scripts.{script_of}
-use Rattle.m3_script.specs.Steps.{Parses, state}
-use Rattle.m3_script.proofs.Loop.{goes_on, is_refused, at_end}
-use Rattle.m3_script.proofs.Kept.{named_of}
+use Rattle.m3_script.specs.ScriptText.{script_of}
+use Rattle.m3_script.specs.ParserView.{Parses, state}
+use Rattle.m3_script.proofs.LineLoop.{goes_on, is_refused, at_end}
+use Rattle.m3_script.proofs.NamedEvents.{named_of}
 use Rattle.m3_script.proofs.parsing.parse.Goals as goal
 
 pub returns-in-Err : goal.returns-in-Err
@@ -14,7 +14,7 @@ returns-in-Err c = record {
 
 pub loop-rest-preserved : goal.loop-rest-preserved
 loop-rest-preserved c = record {
-  reads = goes_on c.args.mode c.args.boxes c.loop-rest.rest.now c.cut_line.result.0.now c.cut_line.result.1.now (state c.loop-rest.progress) (state c.in-Ok.next) c.loop-rest.line
+  reads = goes_on c.args.mode c.args.boxes c.loop-rest.rest.now c.cut_line.result.0.now c.cut_line.result.1.now (state c.loop-rest.progress) (state c.take_line.new.progress) c.loop-rest.line
       (script_of c.args.mode c.args.boxes c.args.bytes.now) c.cut_line.ensures.line c.in-Ok.ensures c.loop-rest.invariant.reads;
   room = omega (arith, c.cut_line.ensures.shorter);
 }

@@ -1,12 +1,12 @@
 use Rattle.std.proofs.Common.{◌≡◌, ◌+◌, ◌≤◌, length}
 use Rattle.std.specs.Str.Lines.{lines}
-use Rattle.m3_script.specs.Scripts.{lines_taken, script_of}
-use Rattle.m3_script.specs.Steps.{state}
+use Rattle.m3_script.specs.ScriptText.{after_lines, script_of}
+use Rattle.m3_script.specs.ParserView.{state}
 use Rattle.m3_script.proofs.parsing.parse.Given as goal
 
 abbrev pub invariant-loop-rest : goal.invariant-loop-rest
 invariant-loop-rest l = record {
-  reads : lines_taken l.frame.mode l.frame.boxes (lines l.rest) (state l.progress) l.line ≡ script_of l.fn.mode l.fn.boxes l.bytes;
+  reads : after_lines l.frame.mode l.frame.boxes (lines l.rest) (state l.progress) l.line ≡ script_of l.fn.mode l.fn.boxes l.bytes;
   room : l.line + length l.rest ≤ length l.bytes + 1;
 }
 

@@ -1,5 +1,5 @@
 use Rattle.std.proofs.Common.{◌+◌, add-one}
-use Rattle.m3_text.proofs.Cuts.{line_at_newline, line_without_newline, drop_rest}
+use Rattle.m3_text.proofs.FirstLine.{line_at_newline, line_without_newline, drop_rest}
 use Rattle.m3_text.proofs.lines.cut_line.Goals as goal
 
 pub returns-in-Some-clause-line : goal.returns-in-Some-clause-line

@@ -1,5 +1,5 @@
 use Rattle.std.proofs.Common.{◌+◌, add-one}
-use Rattle.m3_text.proofs.Cuts.{word_at_space, word_without_space, drop_rest}
+use Rattle.m3_text.proofs.FirstLine.{word_at_space, word_without_space, drop_rest}
 use Rattle.m3_text.proofs.lines.cut_word.Goals as goal
 
 pub returns-in-Some-clause-word : goal.returns-in-Some-clause-word

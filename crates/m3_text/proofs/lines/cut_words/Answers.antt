@@ -1,6 +1,6 @@
 use Rattle.std.proofs.Common.{◌≡◌, ◌<◌, ◌++◌, ◌∷◌, [], length, take, rules}
 use Rattle.m3_text.specs.Lines.{words}
-use Rattle.m3_text.proofs.Parts.{more_words}
+use Rattle.m3_text.proofs.JoinedCauses.{more_words}
 use Rattle.m3_text.proofs.lines.cut_words.Goals as goal
 
 pub loop-found-preserved-in_ok-push : goal.loop-found-preserved-in_ok-push

@@ -1,5 +1,5 @@
 use Rattle.std.proofs.Common.{arith, sym}
-use Rattle.m3_text.proofs.Values.{room, ended}
+use Rattle.m3_text.proofs.DecimalValue.{room, ended}
 use Rattle.m3_text.proofs.numbers.digits_value.Goals as goal
 
 pub returns-in_err-checked_mul : goal.returns-in_err-checked_mul

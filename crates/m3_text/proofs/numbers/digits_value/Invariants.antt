@@ -1,5 +1,5 @@
 use Rattle.std.proofs.Common.{◌<◌, ◌^◌}
-use Rattle.m3_text.proofs.Values.{Reads}
+use Rattle.m3_text.proofs.DecimalValue.{Reads}
 use Rattle.m3_text.proofs.numbers.digits_value.Given as goal
 
 abbrev pub invariant-loop-digit : goal.invariant-loop-digit

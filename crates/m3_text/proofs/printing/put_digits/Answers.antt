@@ -1,5 +1,5 @@
 use Rattle.std.proofs.Common.{string_bytes}
-use Rattle.m3_text.proofs.Digits.{more_digits, all_digits}
+use Rattle.m3_text.proofs.HexDigits.{more_digits, all_digits}
 use Rattle.m3_text.proofs.printing.put_digits.Goals as goal
 
 pub loop-byte-preserved : goal.loop-byte-preserved

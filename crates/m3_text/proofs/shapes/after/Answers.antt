@@ -1,4 +1,4 @@
-use Rattle.m3_text.proofs.Parts.{texts_after}
+use Rattle.m3_text.proofs.JoinedCauses.{texts_after}
 use Rattle.m3_text.proofs.shapes.after.Goals as goal
 
 pub returns : goal.returns

@@ -1,5 +1,5 @@
 use Rattle.std.proofs.Common.{sym}
-use Rattle.m3_text.proofs.Forms.{begins_short}
+use Rattle.m3_text.proofs.LineForm.{begins_short}
 use Rattle.m3_text.proofs.shapes.begins.Goals as goal
 
 pub returns-then-words-form-clause-begins : goal.returns-then-words-form-clause-begins

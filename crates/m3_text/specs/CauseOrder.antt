@@ -22,10 +22,10 @@ both (Err d) (Ok b) = Err d
 both (Err d) (Err e) = Err (earlier d e)
 
 -- the same of what functions returned; want of memory comes first
-abbrev pub joined : {A B : Type 0} → Result A LineRefusal → Result B LineRefusal → Result (A × B) LineRefusal
-joined (Ok a) (Ok b) = Ok (a, b)
-joined (Ok a) (Err e) = Err e
-joined (Err LineRefusal.NoMemory) b = Err LineRefusal.NoMemory
-joined (Err (LineRefusal.Bad d)) (Ok b) = Err (LineRefusal.Bad d)
-joined (Err (LineRefusal.Bad d)) (Err LineRefusal.NoMemory) = Err LineRefusal.NoMemory
-joined (Err (LineRefusal.Bad d)) (Err (LineRefusal.Bad e)) = Err (LineRefusal.Bad (earlier d e))
+abbrev pub both_causes : {A B : Type 0} → Result A LineRefusal → Result B LineRefusal → Result (A × B) LineRefusal
+both_causes (Ok a) (Ok b) = Ok (a, b)
+both_causes (Ok a) (Err e) = Err e
+both_causes (Err LineRefusal.NoMemory) b = Err LineRefusal.NoMemory
+both_causes (Err (LineRefusal.Bad d)) (Ok b) = Err (LineRefusal.Bad d)
+both_causes (Err (LineRefusal.Bad d)) (Err LineRefusal.NoMemory) = Err LineRefusal.NoMemory
+both_causes (Err (LineRefusal.Bad d)) (Err (LineRefusal.Bad e)) = Err (LineRefusal.Bad (earlier d e))

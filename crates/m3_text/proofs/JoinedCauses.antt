@@ -5,12 +5,12 @@ use Rattle.m3_text.specs.Lines.{texts}
 use Rattle.m3_text.specs.declared.refusal.Why.{Why}
 use Rattle.m3_text.specs.declared.refusal.LineRefusal.{LineRefusal}
 use Rattle.m3_text.specs.declared.refusal.LineRefusal.TheVariants as refusals
-use Rattle.m3_text.specs.Reads.{Gives}
-use Rattle.m3_text.specs.Sides.{both, joined}
+use Rattle.m3_text.specs.Refusable.{Gives}
+use Rattle.m3_text.specs.CauseOrder.{both, both_causes}
 
 -- two parts that give what they read give it together
 pub gives_both : {A B C D : Type 0} (va : A → C) (vb : B → D) (a : Result A LineRefusal) (b : Result B LineRefusal) (ra : Result C Why) (rb : Result D Why)
-    → Gives va a ra → Gives vb b rb → Gives (λ x. (va x.0, vb x.1)) (joined a b) (both ra rb)
+    → Gives va a ra → Gives vb b rb → Gives (λ x. (va x.0, vb x.1)) (both_causes a b) (both ra rb)
 gives_both va vb (Ok a) (Ok b) ra rb p q = rw (p, q) refl
 gives_both va vb (Ok a) (Err refusals.NoMemory) ra rb p q = tt
 gives_both va vb (Ok a) (Err (refusals.Bad e)) ra rb p q = rw (p, q) refl

@@ -3,7 +3,7 @@ use Rattle.std.proofs.Common.{◌≡◌, ℕ, ◌+◌, ◌-◌, ◌*◌, ◌^◌
 use Rattle.std.proofs.lemmas.List.{drop_all}
 use Rattle.std.specs.Str.{all_ascii_digits}
 use Rattle.std.specs.Char.{is_ascii_digit}
-use Rattle.m3_text.specs.Numbers.{read_on}
+use Rattle.m3_text.specs.Number.{read_on}
 
 pub grows : (n : ℕ) (cs : List ℕ) → n ≤ read_on n cs
 grows n [] = omega arith

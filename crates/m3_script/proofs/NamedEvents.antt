@@ -4,21 +4,21 @@ use Rattle.std.specs.Prelude.{not, if◌then◌else◌, nat_lt, length, IfOk, �
 use Rattle.std.proofs.lemmas.List.Elements.{All-append, All-cons, All-nil}
 use Rattle.std.specs.Str.Lines.{lines}
 use Rattle.m3_base.specs.declared.event.Event.{Event}
-use Rattle.m3_base.specs.Setup.{SetupValue}
+use Rattle.m3_base.specs.Setup.Rules.{SetupValue}
 use Rattle.m3_text.specs.declared.refusal.Why.{Why}
 use Rattle.m3_text.specs.declared.refusal.Why.TheVariants as why
 use Rattle.m3_text.specs.Lines.{words, is_plain}
 use Rattle.std.specs.List.{list_all}
-use Rattle.m3_text.specs.Reads.{◌>>=◌}
+use Rattle.m3_text.specs.Refusable.{◌>>=◌}
 use Rattle.m3_script.specs.declared.line.Line.{Line}
 use Rattle.m3_script.specs.declared.line.Line.TheVariants as line
 use Rattle.m3_script.specs.declared.script.Mode.{Mode}
 use Rattle.m3_script.specs.declared.script.Script.{Script}
 use Rattle.m3_script.specs.declared.script.ScriptRefusal.{ScriptRefusal}
-use Rattle.m3_script.specs.Steps.{Parses, script_value}
-use Rattle.m3_script.specs.Forms.{line_of}
-use Rattle.m3_script.specs.Rules.{is_allowed, misses, AllNamed}
-use Rattle.m3_script.specs.Scripts.{ScriptValue, State, Empty, InSetup, Running, Refused, started, added, happened, taken, words_taken, is_skipped, line_taken, lines_taken, then_from, ended, script_of}
+use Rattle.m3_script.specs.ParserView.{Parses, script_value}
+use Rattle.m3_script.specs.LineForms.{line_of}
+use Rattle.m3_script.specs.Rules.{is_allowed, names_undeclared, AllNamed}
+use Rattle.m3_script.specs.ScriptText.{ScriptValue, State, Empty, InSetup, Running, Refused, state_with_machine, state_with_line, events_with, after_words, words_of_line, is_skipped, after_line, after_lines, then_from, script_at_end, script_of}
 
 abbrev pub Kept : State → Type 0
 Kept Empty = ⊤
@@ -46,66 +46,66 @@ in_setup : (r : Result SetupValue Why) (t : State) → (r >>= λ x. Ok (InSetup 
 in_setup (Ok x) t e = subst Kept (ok_is (InSetup x) t e) tt
 in_setup (Err w) t e = absurd cc
 
-one_more : (x : SetupValue) (es : List Event) (e : Event) → misses e x ≡ false → AllNamed x es → AllNamed x (es ++ e ∷ [])
-one_more x es e h before = All-append (λ f. misses f x ≡ false) es (e ∷ []) before (All-cons (λ f. misses f x ≡ false) e [] h (All-nil (λ f. misses f x ≡ false)))
+one_more : (x : SetupValue) (es : List Event) (e : Event) → names_undeclared e x ≡ false → AllNamed x es → AllNamed x (es ++ e ∷ [])
+one_more x es e h before = All-append (λ f. names_undeclared f x ≡ false) es (e ∷ []) before (All-cons (λ f. names_undeclared f x ≡ false) e [] h (All-nil (λ f. names_undeclared f x ≡ false)))
 
-happens : (mode : Mode) (x : SetupValue) (es : List Event) (e : Event) (b d : Bool) (t : State) → is_allowed mode es e ≡ b → misses e x ≡ d → AllNamed x es
-    → (happened mode x es e >>= λ fs. Ok (Running x fs)) ≡ Ok t → Kept t
+happens : (mode : Mode) (x : SetupValue) (es : List Event) (e : Event) (b d : Bool) (t : State) → is_allowed mode es e ≡ b → names_undeclared e x ≡ d → AllNamed x es
+    → (events_with mode x es e >>= λ fs. Ok (Running x fs)) ≡ Ok t → Kept t
 happens mode x es e false d t allowed missed before is = let no = rw allowed at is in absurd cc
 happens mode x es e true true t allowed missed before is = let no = rw (allowed, missed) at is in absurd cc
 happens mode x es e true false t allowed missed before is =
     let yes : ok (Running x (es ++ e ∷ [])) ≡ ok t = rw (allowed, missed) at is in
     subst Kept (ok_is (Running x (es ++ e ∷ [])) t yes) (one_more x es e missed before)
 
-line_keeps : (mode : Mode) (boxes : ℕ) (s : State) (l : Line) (t : State) → Kept s → taken mode boxes s l ≡ Ok t → Kept t
-unfolding taken
-line_keeps mode boxes Empty (line.Machine tiles memory) t k e = in_setup (started tiles memory) t e
+line_keeps : (mode : Mode) (boxes : ℕ) (s : State) (l : Line) (t : State) → Kept s → after_words mode boxes s l ≡ Ok t → Kept t
+unfolding after_words
+line_keeps mode boxes Empty (line.Machine tiles memory) t k e = in_setup (state_with_machine tiles memory) t e
 line_keeps mode boxes Empty (line.Setup l) t k e = absurd cc
 line_keeps mode boxes Empty line.Begin t k e = absurd cc
 line_keeps mode boxes Empty (line.Event f) t k e = absurd cc
 line_keeps mode boxes (InSetup x) (line.Machine tiles memory) t k e = absurd cc
-line_keeps mode boxes (InSetup x) (line.Setup l) t k e = in_setup (added boxes x l) t e
-line_keeps mode boxes (InSetup x) line.Begin t k e = subst Kept (ok_is (Running x []) t e) (All-nil (λ f. misses f x ≡ false))
+line_keeps mode boxes (InSetup x) (line.Setup l) t k e = in_setup (state_with_line boxes x l) t e
+line_keeps mode boxes (InSetup x) line.Begin t k e = subst Kept (ok_is (Running x []) t e) (All-nil (λ f. names_undeclared f x ≡ false))
 line_keeps mode boxes (InSetup x) (line.Event f) t k e = absurd cc
 line_keeps mode boxes (Running x es) (line.Machine tiles memory) t k e = absurd cc
 line_keeps mode boxes (Running x es) (line.Setup l) t k e = absurd cc
 line_keeps mode boxes (Running x es) line.Begin t k e = absurd cc
-line_keeps mode boxes (Running x es) (line.Event f) t k e = happens mode x es f (is_allowed mode es f) (misses f x) t refl refl k e
+line_keeps mode boxes (Running x es) (line.Event f) t k e = happens mode x es f (is_allowed mode es f) (names_undeclared f x) t refl refl k e
 
-form_keeps : (mode : Mode) (boxes : ℕ) (s : State) (r : Result Line Why) (t : State) → Kept s → (r >>= taken mode boxes s) ≡ Ok t → Kept t
+form_keeps : (mode : Mode) (boxes : ℕ) (s : State) (r : Result Line Why) (t : State) → Kept s → (r >>= after_words mode boxes s) ≡ Ok t → Kept t
 form_keeps mode boxes s (Ok l) t k e = line_keeps mode boxes s l t k e
 form_keeps mode boxes s (Err w) t k e = absurd cc
 
-words_keep : (mode : Mode) (boxes : ℕ) (s : State) (ws : List (List ℕ)) (t : State) → Kept s → words_taken mode boxes s ws ≡ Ok t → Kept t
-unfolding words_taken
-words_keep mode boxes s ws t k e = form_keeps mode boxes s (line_of ws) t k (unless (nat_lt 13 (length ws)) why.Form (line_of ws >>= taken mode boxes s) t e)
+words_keep : (mode : Mode) (boxes : ℕ) (s : State) (ws : List (List ℕ)) (t : State) → Kept s → words_of_line mode boxes s ws ≡ Ok t → Kept t
+unfolding words_of_line
+words_keep mode boxes s ws t k e = form_keeps mode boxes s (line_of ws) t k (unless (nat_lt 13 (length ws)) why.Form (line_of ws >>= after_words mode boxes s) t e)
 
 or_skipped : (b : Bool) (s : State) (r : Result State Why) (t : State) → Kept s → (r ≡ Ok t → Kept t) → (if b then Ok s else r) ≡ Ok t → Kept t
 or_skipped true s r t k other e = subst Kept (ok_is s t e) k
 or_skipped false s r t k other e = other e
 
-bytes_keep : (mode : Mode) (boxes : ℕ) (s : State) (l : List ℕ) (t : State) → Kept s → line_taken mode boxes s l ≡ Ok t → Kept t
-unfolding line_taken
+bytes_keep : (mode : Mode) (boxes : ℕ) (s : State) (l : List ℕ) (t : State) → Kept s → after_line mode boxes s l ≡ Ok t → Kept t
+unfolding after_line
 bytes_keep mode boxes s l t k e =
-    or_skipped (is_skipped (words l)) s (words_taken mode boxes s (words l)) t k (words_keep mode boxes s (words l) t k)
-    (unless (not (list_all is_plain l)) why.Form (if is_skipped (words l) then Ok s else words_taken mode boxes s (words l)) t e)
+    or_skipped (is_skipped (words l)) s (words_of_line mode boxes s (words l)) t k (words_keep mode boxes s (words l) t k)
+    (unless (not (list_all is_plain l)) why.Form (if is_skipped (words l) then Ok s else words_of_line mode boxes s (words l)) t e)
 
 next : {C : Type 0} (r : Result State Why) (n : ℕ) (f : State → ℕ → Result ScriptValue Refused) (script : ScriptValue) → then_from n f r ≡ Ok script
     → ((t : State) → r ≡ Ok t → f t (n + 1) ≡ Ok script → C) → C
 next (Ok t) n f script e k = k t refl e
 next (Err w) n f script e k = absurd cc
 
-at_end : (n : ℕ) (s : State) (script : ScriptValue) → Kept s → ended n s ≡ Ok script → AllNamed script.setup script.events
+at_end : (n : ℕ) (s : State) (script : ScriptValue) → Kept s → script_at_end n s ≡ Ok script → AllNamed script.setup script.events
 at_end n Empty script k e = absurd cc
 at_end n (InSetup x) script k e = absurd cc
 at_end n (Running x es) script k e =
     subst (λ (v : ScriptValue). AllNamed v.setup v.events) (whole_is (record { setup = x; events = es }) script e) k
 
-lines_keep : (mode : Mode) (boxes : ℕ) (ls : List (List ℕ)) (s : State) (n : ℕ) (script : ScriptValue) → Kept s → lines_taken mode boxes ls s n ≡ Ok script → AllNamed script.setup script.events
-unfolding lines_taken
+lines_keep : (mode : Mode) (boxes : ℕ) (ls : List (List ℕ)) (s : State) (n : ℕ) (script : ScriptValue) → Kept s → after_lines mode boxes ls s n ≡ Ok script → AllNamed script.setup script.events
+unfolding after_lines
 lines_keep mode boxes [] s n script k e = at_end n s script k e
 lines_keep mode boxes (l ∷ ls) s n script k e =
-    next (line_taken mode boxes s l) n (lines_taken mode boxes ls) script e
+    next (after_line mode boxes s l) n (after_lines mode boxes ls) script e
     (λ t is more. lines_keep mode boxes ls t (n + 1) script (bytes_keep mode boxes s l t k is) more)
 
 pub all_named : (mode : Mode) (boxes : ℕ) (bytes : List ℕ) (script : ScriptValue) → script_of mode boxes bytes ≡ Ok script → AllNamed script.setup script.events

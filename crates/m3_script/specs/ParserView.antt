@@ -1,15 +1,27 @@
 -- What the functions of the reader return, compared with what is read.
 use Rattle.std.specs.Prelude.{◌≡◌, ℕ, Result, Ok, Err, ⊤}
 use Rattle.m3_text.specs.declared.refusal.LineRefusal.{LineRefusal}
+use Rattle.m3_text.specs.declared.refusal.Why.{Why}
+use Rattle.m3_text.specs.Refusable.{Fails}
 use Rattle.m3_script.specs.declared.reading.Progress.{Progress}
 use Rattle.m3_script.specs.declared.script.Script.{Script}
 use Rattle.m3_script.specs.declared.script.ScriptRefusal.{ScriptRefusal}
-use Rattle.m3_script.specs.Scripts.{ScriptValue, State, Empty, InSetup, Running, Refused}
+use Rattle.m3_script.specs.ScriptText.{ScriptValue, State, Empty, InSetup, Running, Refused}
 
 abbrev pub state : Progress → State
 state Progress.Nothing = Empty
 state (Progress.InSetup x) = InSetup x
 state (Progress.Running x events) = Running x events.items
+
+-- `begin` is still to come
+abbrev pub IsBefore : State → Type 0
+IsBefore (Running x events) = ⊥
+IsBefore s = ⊤
+
+-- a state that a function changes in place is what the reading leads to; after a refusal nothing is said of it
+abbrev pub Leads : {X : Type 0} → Result ⊤ LineRefusal → X → Result X Why → Type 0
+Leads (Ok done) new reading = reading ≡ Ok new
+Leads (Err e) new reading = Fails e reading
 
 abbrev pub script_value : Script → ScriptValue
 script_value s = record { setup = s.setup; events = s.events.items }
