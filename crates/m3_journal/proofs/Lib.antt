@@ -1,1 +1,14 @@
-pub mod Behind
+pub mod Tails
+pub mod Few
+pub mod Cuts
+pub mod Loop
+pub mod ClearWords
+pub mod VisibleWords
+pub mod Causes
+pub mod SaidAgain
+pub mod OutcomesAgain
+pub mod FormsAgain
+pub mod EntriesAgain
+pub mod LinesAgain
+pub mod JournalsAgain
+pub mod Spacing

@@ -1,7 +1,7 @@
 -- The words of a command.
 use Rattle.std.specs.Prelude.{ℕ, List, [], ◌∷◌, codes, decimal, Option, Some, None}
 use Rattle.m3_base.specs.declared.command.Command.{Command}
-use Rattle.m3_text.specs.Hexes.{hex_text}
+use Rattle.m3_text.specs.Hex.{hex_text}
 
 -- a number behind its word, where there is one
 abbrev pub optional : List ℕ → Option ℕ → List (List ℕ)

@@ -2,7 +2,10 @@ pub mod Commands
 pub mod Orders
 pub mod Events
 pub mod Outcomes
-pub mod Setups
-pub mod Audits
-pub mod Texts
 pub mod Packets
+pub mod Reading
+pub mod Spelled
+pub mod Laws
+pub mod JournalText
+pub mod SetupLines
+pub mod AuditLines

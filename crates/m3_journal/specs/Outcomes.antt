@@ -7,22 +7,26 @@ use Rattle.m3_base.specs.declared.event.No.{No}
 use Rattle.m3_base.specs.declared.event.Said.{Said}
 use Rattle.m3_base.specs.declared.event.Outcome.{Outcome}
 use Rattle.m3_base.specs.declared.ids.FlightId.{FlightId}
-use Rattle.m3_text.specs.Hexes.{hex_text}
+use Rattle.m3_text.specs.Hex.{hex_text}
 use Rattle.m3_text.specs.Printing.{flight_word}
 use Rattle.m3_journal.specs.Commands.{optional}
+use Rattle.m3_base.specs.RefusalCodes.{refusal_name}
+
+abbrev pub refusal_code : Refusal → List ℕ
+refusal_code Refusal.NoEndpoint = codes "1"
+refusal_code Refusal.NoCredits = codes "2"
+refusal_code Refusal.TooLarge = codes "3"
+refusal_code Refusal.Revoked = codes "4"
+refusal_code Refusal.Full = codes "5"
+refusal_code Refusal.OutOfRange = codes "6"
+refusal_code Refusal.NoPermission = codes "7"
+refusal_code Refusal.NoReplyWanted = codes "8"
+refusal_code Refusal.NoSuchToken = codes "9"
+refusal_code Refusal.BadReplyEndpoint = codes "10"
 
 -- a refusal's code and name
 abbrev pub refusal_words : Refusal → List (List ℕ)
-refusal_words Refusal.NoEndpoint = codes "1" ∷ codes "no-endpoint" ∷ []
-refusal_words Refusal.NoCredits = codes "2" ∷ codes "no-credits" ∷ []
-refusal_words Refusal.TooLarge = codes "3" ∷ codes "too-large" ∷ []
-refusal_words Refusal.Revoked = codes "4" ∷ codes "revoked" ∷ []
-refusal_words Refusal.Full = codes "5" ∷ codes "full" ∷ []
-refusal_words Refusal.OutOfRange = codes "6" ∷ codes "out-of-range" ∷ []
-refusal_words Refusal.NoPermission = codes "7" ∷ codes "no-permission" ∷ []
-refusal_words Refusal.NoReplyWanted = codes "8" ∷ codes "no-reply-wanted" ∷ []
-refusal_words Refusal.NoSuchToken = codes "9" ∷ codes "no-such-token" ∷ []
-refusal_words Refusal.BadReplyEndpoint = codes "10" ∷ codes "bad-reply-endpoint" ∷ []
+refusal_words why = refusal_code why ∷ refusal_name why ∷ []
 
 abbrev pub answer_words : Answer → List (List ℕ)
 answer_words Answer.Sent = codes "sent" ∷ []

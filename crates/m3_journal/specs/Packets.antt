@@ -5,8 +5,8 @@ use Rattle.m3_base.specs.declared.message.Header.{Header}
 use Rattle.m3_base.specs.declared.message.Message.{Message}
 use Rattle.m3_base.specs.declared.packet.Fresh.{Fresh}
 use Rattle.m3_base.specs.declared.packet.Packet.{Packet}
-use Rattle.m3_base.specs.Land.{message_id}
-use Rattle.m3_text.specs.Hexes.{hex_text}
+use Rattle.m3_base.specs.Ideal.Landing.{message_id}
+use Rattle.m3_text.specs.Hex.{hex_text}
 use Rattle.m3_text.specs.Printing.{flight_word}
 use Rattle.m3_journal.specs.Orders.{extent_words}
 use Rattle.m3_journal.specs.Outcomes.{answer_words}

@@ -1,9 +1,9 @@
 //! Audits as text.
 
 ghost use Rattle.std.specs.Prelude.{◌≡◌, ◌∷◌, ◌++◌, [], OnOk, map, string_bytes};
-ghost use Rattle.m3_text.specs.Printing.{spaced, line_text, text_of_lines};
-ghost use Rattle.m3_journal.specs.Audits.{current_words, count_words, audit_words, yes_word};
-ghost use Rattle.m3_journal.specs.Texts.{audit_line};
+ghost use Rattle.m3_text.specs.Printing.{words_text, line_text, text_of_lines};
+ghost use Rattle.m3_journal.specs.AuditLines.{current_words, count_words, audit_words, yes_word};
+ghost use Rattle.m3_journal.specs.JournalText.{audit_line};
 
 use m3_base::ids::ActId;
 use m3_base::journal::AuditLine;
@@ -11,7 +11,7 @@ use std::alloc::AllocError;
 use std::fmt::Write;
 
 fn put_current(out: &mut String, act: Option<ActId>) -> Result<(), AllocError>
-    ensures { OnOk result (string_bytes out.new ≡ string_bytes out.old ++ spaced (current_words act)) }
+    ensures { OnOk result (string_bytes out.new ≡ string_bytes out.old ++ words_text (current_words act)) }
 {
     match act {
         None => out.push_str(" none"),
@@ -35,7 +35,7 @@ fn put_counts(
     queued: u32,
     limit: u32,
 ) -> Result<(), AllocError>
-    ensures { OnOk result (string_bytes out.new ≡ string_bytes out.old ++ spaced (count_words held flying queued limit)) }
+    ensures { OnOk result (string_bytes out.new ≡ string_bytes out.old ++ words_text (count_words held flying queued limit)) }
 {
     write!(
         out,
@@ -43,7 +43,7 @@ fn put_counts(
     )
 }
 
-fn put_audit_line(out: &mut String, line: &AuditLine) -> Result<(), AllocError>
+pub fn put_audit_line(out: &mut String, line: &AuditLine) -> Result<(), AllocError>
     ensures { OnOk result (string_bytes out.new ≡ string_bytes out.old ++ audit_line line.now) }
 {
     match line {

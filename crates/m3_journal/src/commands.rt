@@ -1,7 +1,7 @@
 //! The words of commands, each behind a space.
 
 ghost use Rattle.std.specs.Prelude.{◌≡◌, ◌++◌, OnOk, string_bytes};
-ghost use Rattle.m3_text.specs.Printing.{spaced};
+ghost use Rattle.m3_text.specs.Printing.{words_text};
 ghost use Rattle.m3_journal.specs.Commands.{optional, command_words};
 
 use m3_base::command::Command;
@@ -12,7 +12,7 @@ use std::fmt::Write;
 
 /// A number behind its word, where there is one.
 pub fn put_optional(out: &mut String, name: &str, number: Option<u16>) -> Result<(), AllocError>
-    ensures { OnOk result (string_bytes out.new ≡ string_bytes out.old ++ spaced (optional name.now number)) }
+    ensures { OnOk result (string_bytes out.new ≡ string_bytes out.old ++ words_text (optional name.now number)) }
 {
     match number {
         None => Ok(()),
@@ -48,7 +48,7 @@ fn ep_number(ep: Option<EpId>) -> Option<u16>
 }
 
 pub fn put_command(out: &mut String, command: &Command) -> Result<(), AllocError>
-    ensures { OnOk result (string_bytes out.new ≡ string_bytes out.old ++ spaced (command_words command.now)) }
+    ensures { OnOk result (string_bytes out.new ≡ string_bytes out.old ++ words_text (command_words command.now)) }
 {
     match command {
         Command::Send { ep, payload, reply } => {

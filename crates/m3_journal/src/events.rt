@@ -1,7 +1,7 @@
 //! The words of events.
 
 ghost use Rattle.std.specs.Prelude.{◌≡◌, ◌++◌, OnOk, string_bytes};
-ghost use Rattle.m3_text.specs.Printing.{spaced, line_text};
+ghost use Rattle.m3_text.specs.Printing.{words_text, line_text};
 ghost use Rattle.m3_journal.specs.Events.{move_words, event_words};
 
 use crate::commands::put_command;
@@ -11,7 +11,7 @@ use std::alloc::AllocError;
 use std::fmt::Write;
 
 fn put_move(out: &mut String, made: &Option<Made>) -> Result<(), AllocError>
-    ensures { OnOk result (string_bytes out.new ≡ string_bytes out.old ++ spaced (move_words made.now)) }
+    ensures { OnOk result (string_bytes out.new ≡ string_bytes out.old ++ words_text (move_words made.now)) }
 {
     match made {
         None => Ok(()),

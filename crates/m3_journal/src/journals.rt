@@ -2,7 +2,7 @@
 
 ghost use Rattle.std.specs.Prelude.{◌≡◌, ◌++◌, IfOk, OnOk, string_bytes};
 ghost use Rattle.m3_text.specs.Printing.{text_of_lines};
-ghost use Rattle.m3_journal.specs.Texts.{journal_text};
+ghost use Rattle.m3_journal.specs.JournalText.{journal_text};
 
 use crate::audits::put_audit;
 use crate::entries::put_entries;

@@ -6,15 +6,19 @@ mod commands;
 mod entries;
 mod events;
 mod journals;
+pub mod laws;
+mod line_texts;
 mod orders;
 mod outcomes;
 mod packets;
+mod reading;
 mod setups;
 
+pub use entries::put_entries;
 pub use journals::print;
+pub use line_texts::{audit_texts, entry_texts, setup_texts};
+pub use orders::put_grant;
 pub use packets::put_packet;
-
-#[cfg(test)]
-mod line_tests;
-#[cfg(test)]
-mod tests;
+pub use reading::draft::Draft;
+pub use reading::line::{Line, Words};
+pub use reading::parsing::{finish, parse_journal, refusal};

@@ -1,7 +1,7 @@
 //! The words of orders and of lines on files.
 
 ghost use Rattle.std.specs.Prelude.{◌≡◌, ◌++◌, OnOk, string_bytes};
-ghost use Rattle.m3_text.specs.Printing.{spaced, line_text};
+ghost use Rattle.m3_text.specs.Printing.{words_text, line_text};
 ghost use Rattle.m3_journal.specs.Orders.{perm_word, extent_words, grant_words, order_words, file_words};
 
 use m3_base::order::{FileLine, GrantLine, Order};
@@ -20,7 +20,7 @@ fn perm_word(perm: Perm) -> &'static str
 }
 
 pub fn put_extent(out: &mut String, at: u32, len: u32, perm: Perm) -> Result<(), AllocError>
-    ensures { OnOk result (string_bytes out.new ≡ string_bytes out.old ++ spaced (extent_words at len perm)) }
+    ensures { OnOk result (string_bytes out.new ≡ string_bytes out.old ++ words_text (extent_words at len perm)) }
 {
     let perm = perm_word(perm);
     write!(out, " at {at} len {len} perm {perm}")
@@ -84,7 +84,7 @@ pub fn put_grant(out: &mut String, line: &GrantLine) -> Result<(), AllocError>
     }
 }
 
-#[tactic(auto, using(crate::proofs::Behind::spaced_grant))]
+#[tactic(auto, using(crate::proofs::Spacing::spaced_grant))]
 pub fn put_order(out: &mut String, order: &Order) -> Result<(), AllocError>
     ensures { OnOk result (string_bytes out.new ≡ string_bytes out.old ++ line_text (order_words order.now)) }
 {

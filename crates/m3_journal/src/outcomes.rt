@@ -1,7 +1,7 @@
 //! The words of outcomes, each behind a space.
 
 ghost use Rattle.std.specs.Prelude.{◌≡◌, ◌∷◌, ◌++◌, [], decimal, OnOk, string_bytes};
-ghost use Rattle.m3_text.specs.Printing.{spaced, flight_word};
+ghost use Rattle.m3_text.specs.Printing.{words_text, flight_word};
 ghost use Rattle.m3_journal.specs.Outcomes.{refusal_words, answer_words, answered_words, idle_word, no_word, way_word, acknowledged_words, message_words, said_words, outcome_words};
 
 use crate::commands::{act_number, grant_number, put_optional};
@@ -13,7 +13,7 @@ use std::alloc::AllocError;
 use std::fmt::Write;
 
 fn refusal_text(why: Refusal) -> &'static str
-    ensures { result.now ≡ spaced (refusal_words why) }
+    ensures { result.now ≡ words_text (refusal_words why) }
 {
     match why {
         Refusal::NoEndpoint => " 1 no-endpoint",
@@ -72,7 +72,7 @@ fn way_word(held: bool) -> &'static str
 }
 
 pub fn put_answer(out: &mut String, answer: &Answer) -> Result<(), AllocError>
-    ensures { OnOk result (string_bytes out.new ≡ string_bytes out.old ++ spaced (answer_words answer.now)) }
+    ensures { OnOk result (string_bytes out.new ≡ string_bytes out.old ++ words_text (answer_words answer.now)) }
 {
     match answer {
         Answer::Sent => out.push_str(" sent"),
@@ -90,7 +90,7 @@ pub fn put_answer(out: &mut String, answer: &Answer) -> Result<(), AllocError>
 }
 
 fn put_acknowledged(out: &mut String, credit: Option<FlightId>) -> Result<(), AllocError>
-    ensures { OnOk result (string_bytes out.new ≡ string_bytes out.old ++ spaced (acknowledged_words credit)) }
+    ensures { OnOk result (string_bytes out.new ≡ string_bytes out.old ++ words_text (acknowledged_words credit)) }
 {
     match credit {
         None => out.push_str(" acknowledged"),
@@ -100,7 +100,7 @@ fn put_acknowledged(out: &mut String, credit: Option<FlightId>) -> Result<(), Al
 
 // A word and a flight's name.
 fn put_named(out: &mut String, name: &str, id: FlightId) -> Result<(), AllocError>
-    ensures { OnOk result (string_bytes out.new ≡ string_bytes out.old ++ spaced (name.now ∷ flight_word id ∷ [])) }
+    ensures { OnOk result (string_bytes out.new ≡ string_bytes out.old ++ words_text (name.now ∷ flight_word id ∷ [])) }
 {
     write!(out, " {name} ")?;
     put_flight(out, id)
@@ -113,7 +113,7 @@ fn put_of_grant(
     id: FlightId,
     grant: GrantId,
 ) -> Result<(), AllocError>
-    ensures { OnOk result (string_bytes out.new ≡ string_bytes out.old ++ spaced (name.now ∷ flight_word id ∷ decimal grant ∷ [])) }
+    ensures { OnOk result (string_bytes out.new ≡ string_bytes out.old ++ words_text (name.now ∷ flight_word id ∷ decimal grant ∷ [])) }
 {
     let grant = grant.number();
     put_named(out, name, id)?;
@@ -122,7 +122,7 @@ fn put_of_grant(
 
 // A word and an activity.
 fn put_of_act(out: &mut String, name: &str, act: ActId) -> Result<(), AllocError>
-    ensures { OnOk result (string_bytes out.new ≡ string_bytes out.old ++ spaced (name.now ∷ decimal act ∷ [])) }
+    ensures { OnOk result (string_bytes out.new ≡ string_bytes out.old ++ words_text (name.now ∷ decimal act ∷ [])) }
 {
     let act = act.number();
     write!(out, " {name} {act}")
@@ -136,7 +136,7 @@ fn put_order_sent(
     id: FlightId,
     held: bool,
 ) -> Result<(), AllocError>
-    ensures { OnOk result (string_bytes out.new ≡ string_bytes out.old ++ spaced (name.now ∷ decimal grant ∷ flight_word id ∷ way_word held ∷ [])) }
+    ensures { OnOk result (string_bytes out.new ≡ string_bytes out.old ++ words_text (name.now ∷ decimal grant ∷ flight_word id ∷ way_word held ∷ [])) }
 {
     let grant = grant.number();
     write!(out, " {name} {grant} ")?;
@@ -153,7 +153,7 @@ fn put_message(
     label: u64,
     payload: &[u8],
 ) -> Result<(), AllocError>
-    ensures { OnOk result (string_bytes out.new ≡ string_bytes out.old ++ spaced (message_words kind.now token from label payload.now)) }
+    ensures { OnOk result (string_bytes out.new ≡ string_bytes out.old ++ words_text (message_words kind.now token from label payload.now)) }
 {
     let from = from.number();
     write!(out, " {kind} {token} from {from} label {label} ")?;
@@ -166,7 +166,7 @@ fn put_answered(
     answer: &Answer,
     closed: Option<GrantId>,
 ) -> Result<(), AllocError>
-    ensures { OnOk result (string_bytes out.new ≡ string_bytes out.old ++ spaced (answered_words id answer.now closed)) }
+    ensures { OnOk result (string_bytes out.new ≡ string_bytes out.old ++ words_text (answered_words id answer.now closed)) }
 {
     put_named(out, "answered", id)?;
     put_answer(out, answer)?;
@@ -174,7 +174,7 @@ fn put_answered(
 }
 
 fn put_said(out: &mut String, said: &Said) -> Result<(), AllocError>
-    ensures { OnOk result (string_bytes out.new ≡ string_bytes out.old ++ spaced (said_words said.now)) }
+    ensures { OnOk result (string_bytes out.new ≡ string_bytes out.old ++ words_text (said_words said.now)) }
 {
     match said {
         Said::Flying(id) => put_named(out, "flying", *id),
@@ -254,7 +254,7 @@ fn put_said(out: &mut String, said: &Said) -> Result<(), AllocError>
 }
 
 pub fn put_outcome(out: &mut String, outcome: &Outcome) -> Result<(), AllocError>
-    ensures { OnOk result (string_bytes out.new ≡ string_bytes out.old ++ spaced (outcome_words outcome.now)) }
+    ensures { OnOk result (string_bytes out.new ≡ string_bytes out.old ++ words_text (outcome_words outcome.now)) }
 {
     put_said(out, &outcome.said)?;
     put_optional(out, "restore", act_number(outcome.restore))

@@ -3,8 +3,8 @@
 ghost use Rattle.std.specs.Prelude.{◌≡◌, ◌≤◌, ◌∷◌, ◌++◌, [], OnOk, length, codes, decimal, string_bytes};
 ghost use Rattle.m3_base.specs.declared.packet.Fresh.TheVariants as Fresh;
 ghost use Rattle.m3_base.specs.declared.packet.Packet.TheVariants as Packet;
-ghost use Rattle.m3_text.specs.Hexes.{hex_text};
-ghost use Rattle.m3_text.specs.Printing.{spaced, line_text, flight_word};
+ghost use Rattle.m3_text.specs.Hex.{hex_text};
+ghost use Rattle.m3_text.specs.Printing.{words_text, line_text, flight_word};
 ghost use Rattle.m3_journal.specs.Packets.{message_word, wish_words, receiver_words, terms_words, record_grant_words, record_words, origin_words, content_words, access_words, packet_words};
 
 use crate::orders::put_extent;
@@ -28,7 +28,7 @@ fn message_word(header: &Header) -> &'static str
 
 // The endpoint that waits for a reply, or that none does.
 fn put_wish(out: &mut String, header: &Header) -> Result<(), AllocError>
-    ensures { OnOk result (string_bytes out.new ≡ string_bytes out.old ++ spaced (wish_words header.now)) }
+    ensures { OnOk result (string_bytes out.new ≡ string_bytes out.old ++ words_text (wish_words header.now)) }
 {
     if header.reply_ep == 255 {
         out.push_str(" reply none")
@@ -47,7 +47,7 @@ fn put_name(out: &mut String, word: &str, id: FlightId) -> Result<(), AllocError
 
 // An endpoint and the grant of its record.
 fn put_receiver(out: &mut String, act: ActId, ep: EpId, grant: GrantId) -> Result<(), AllocError>
-    ensures { OnOk result (string_bytes out.new ≡ string_bytes out.old ++ spaced (receiver_words act ep grant)) }
+    ensures { OnOk result (string_bytes out.new ≡ string_bytes out.old ++ words_text (receiver_words act ep grant)) }
 {
     let act = act.number();
     let ep = ep.number();
@@ -56,7 +56,7 @@ fn put_receiver(out: &mut String, act: ActId, ep: EpId, grant: GrantId) -> Resul
 }
 
 fn put_payload(out: &mut String, bytes: &[u8]) -> Result<(), AllocError>
-    ensures { OnOk result (string_bytes out.new ≡ string_bytes out.old ++ spaced (hex_text bytes.now ∷ [])) }
+    ensures { OnOk result (string_bytes out.new ≡ string_bytes out.old ++ words_text (hex_text bytes.now ∷ [])) }
 {
     out.push_str(" ")?;
     put_hex(out, bytes)
@@ -64,14 +64,14 @@ fn put_payload(out: &mut String, bytes: &[u8]) -> Result<(), AllocError>
 
 // The send grant of a message, and its label.
 fn put_origin(out: &mut String, send: u32, label: u64) -> Result<(), AllocError>
-    ensures { OnOk result (string_bytes out.new ≡ string_bytes out.old ++ spaced (origin_words send label)) }
+    ensures { OnOk result (string_bytes out.new ≡ string_bytes out.old ++ words_text (origin_words send label)) }
 {
     write!(out, " send {send} label {label}")
 }
 
 // What a message says beside where it goes.
 fn put_content(out: &mut String, message: &Message) -> Result<(), AllocError>
-    ensures { OnOk result (string_bytes out.new ≡ string_bytes out.old ++ spaced (content_words message.now)) }
+    ensures { OnOk result (string_bytes out.new ≡ string_bytes out.old ++ words_text (content_words message.now)) }
 {
     put_origin(out, message.header.send, message.header.label)?;
     put_wish(out, &message.header)?;
@@ -117,21 +117,21 @@ fn put_access(
 }
 
 fn put_terms(out: &mut String, label: u64, size: u16, limit: u8) -> Result<(), AllocError>
-    ensures { OnOk result (string_bytes out.new ≡ string_bytes out.old ++ spaced (terms_words label size limit)) }
+    ensures { OnOk result (string_bytes out.new ≡ string_bytes out.old ++ words_text (terms_words label size limit)) }
 {
     write!(out, " label {label} size {size} credits {limit}")
 }
 
 // A record's form and its grant.
 fn put_record_grant(out: &mut String, form: &str, grant: GrantId) -> Result<(), AllocError>
-    ensures { OnOk result (string_bytes out.new ≡ string_bytes out.old ++ spaced (record_grant_words form.now grant)) }
+    ensures { OnOk result (string_bytes out.new ≡ string_bytes out.old ++ words_text (record_grant_words form.now grant)) }
 {
     let grant = grant.number();
     write!(out, " {form} grant {grant}")
 }
 
 fn put_record(out: &mut String, fresh: &Fresh) -> Result<(), AllocError>
-    ensures { OnOk result (string_bytes out.new ≡ string_bytes out.old ++ spaced (record_words fresh.now)) }
+    ensures { OnOk result (string_bytes out.new ≡ string_bytes out.old ++ words_text (record_words fresh.now)) }
 {
     match fresh {
         Fresh::Send {

@@ -1,10 +1,10 @@
 //! Setups as text.
 
 ghost use Rattle.std.specs.Prelude.{◌≡◌, ◌∷◌, ◌++◌, [], OnOk, map, string_bytes};
-ghost use Rattle.m3_text.specs.Printing.{spaced, line_text, text_of_lines};
-ghost use Rattle.m3_text.specs.Hexes.{hex_text};
-ghost use Rattle.m3_journal.specs.Setups.{machine_words, writer_ends, reader_ends, writer_words, reader_words, pipe_words, fuel_words, setup_words};
-ghost use Rattle.m3_journal.specs.Texts.{setup_line, setup_lines};
+ghost use Rattle.m3_text.specs.Printing.{words_text, line_text, text_of_lines};
+ghost use Rattle.m3_text.specs.Hex.{hex_text};
+ghost use Rattle.m3_journal.specs.SetupLines.{machine_words, writer_ends, reader_ends, writer_words, reader_words, pipe_words, fuel_words, setup_words};
+ghost use Rattle.m3_journal.specs.JournalText.{setup_line, setup_lines};
 
 use crate::commands::put_command;
 use crate::orders::put_grant;
@@ -34,13 +34,13 @@ fn put_later_lines(out: &mut String, lines: &[SetupLine]) -> Result<(), AllocErr
     Ok(())
 }
 
-fn put_machine(out: &mut String, tiles: u8, memory: u32) -> Result<(), AllocError>
+pub fn put_machine(out: &mut String, tiles: u8, memory: u32) -> Result<(), AllocError>
     ensures { OnOk result (string_bytes out.new ≡ string_bytes out.old ++ line_text (machine_words tiles memory)) }
 {
     write!(out, "machine tiles {tiles} memory {memory}")
 }
 
-fn put_setup_line(out: &mut String, line: &SetupLine) -> Result<(), AllocError>
+pub fn put_setup_line(out: &mut String, line: &SetupLine) -> Result<(), AllocError>
     ensures { OnOk result (string_bytes out.new ≡ string_bytes out.old ++ setup_line line.now) }
 {
     match line {
@@ -149,20 +149,20 @@ fn put_reader_ends(out: &mut String, act: ActId, mem: EpId, recv: EpId) -> Resul
 }
 
 fn put_pipe(out: &mut String, chunk: u16, ring: u8) -> Result<(), AllocError>
-    ensures { OnOk result (string_bytes out.new ≡ string_bytes out.old ++ spaced (pipe_words chunk ring)) }
+    ensures { OnOk result (string_bytes out.new ≡ string_bytes out.old ++ words_text (pipe_words chunk ring)) }
 {
     write!(out, " chunk {chunk} ring {ring}")
 }
 
 fn put_bytes(out: &mut String, bytes: &[u8]) -> Result<(), AllocError>
-    ensures { OnOk result (string_bytes out.new ≡ string_bytes out.old ++ spaced (hex_text bytes.now ∷ [])) }
+    ensures { OnOk result (string_bytes out.new ≡ string_bytes out.old ++ words_text (hex_text bytes.now ∷ [])) }
 {
     out.push_str(" ")?;
     put_hex(out, bytes)
 }
 
 fn put_fuel(out: &mut String, fuel: u16) -> Result<(), AllocError>
-    ensures { OnOk result (string_bytes out.new ≡ string_bytes out.old ++ spaced (fuel_words fuel)) }
+    ensures { OnOk result (string_bytes out.new ≡ string_bytes out.old ++ words_text (fuel_words fuel)) }
 {
     write!(out, " fuel {fuel}")
 }

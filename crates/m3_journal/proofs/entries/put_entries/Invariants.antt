@@ -1,6 +1,6 @@
 use Rattle.std.proofs.Common.{◌≡◌, ◌++◌, take, map, string_bytes}
 use Rattle.m3_text.specs.Printing.{text_of_lines}
-use Rattle.m3_journal.specs.Texts.{entry_line}
+use Rattle.m3_journal.specs.JournalText.{entry_line}
 use Rattle.m3_journal.proofs.entries.put_entries.Given as goal
 
 abbrev pub invariant-loop-entry : goal.invariant-loop-entry

@@ -1,7 +1,7 @@
 -- The words of setup lines.
 use Rattle.std.specs.Prelude.{ℕ, List, [], ◌∷◌, ◌++◌, codes, decimal}
 use Rattle.m3_base.specs.declared.setup_line.SetupLine.{SetupLine}
-use Rattle.m3_text.specs.Hexes.{hex_text}
+use Rattle.m3_text.specs.Hex.{hex_text}
 use Rattle.m3_journal.specs.Commands.{command_words}
 use Rattle.m3_journal.specs.Orders.{grant_words}
 

@@ -1,0 +1,6 @@
+use Rattle.std.proofs.Common.{◌≡◌, ◌++◌, take, map}
+use Rattle.m3_journal.specs.JournalText.{strings, audit_line}
+use Rattle.m3_journal.proofs.line_texts.audit_texts.Given as goal
+
+abbrev pub invariant-loop-line : goal.invariant-loop-line
+invariant-loop-line l = strings l.texts.items ≡ map audit_line (take l.line-index l.lines)

@@ -1,0 +1,6 @@
+pub mod Strings
+pub mod Values
+pub mod Loop
+pub mod Again
+pub mod Whole
+pub mod TextAgain
