@@ -1,30 +1,28 @@
--- The laws of runs with orders.
-use Rattle.std.specs.Prelude.{◌≡◌, ℕ, ◌<◌, ◌==◌, ◌&&◌, Bool, true, false, List, [], ◌∷◌, Option, Some, None}
+-- The laws of runs: credits, records, what a revoke leaves, granted bytes, and causes of refusal.
+use Rattle.std.specs.Prelude.{◌≡◌, ℕ, ◌<◌, ◌==◌, ◌&&◌, Bool, true, false, List, [], ◌∷◌, Option, Some, None, length}
 use Rattle.m3_base.specs.declared.step.Step.{Step}
 use Rattle.m3_base.specs.declared.packet.Fresh.{Fresh}
-use Rattle.m3_base.specs.Flight.{flight}
+use Rattle.m3_base.specs.Ideal.Flights.{flight}
 use Rattle.m3_base.specs.declared.ids.FlightId.{FlightId}
 use Rattle.m3_base.specs.declared.message.Message.{Message}
 use Rattle.m3_base.specs.declared.packet.Packet.{Packet}
 use Rattle.m3_base.specs.declared.command.Refusal.{Refusal}
-use Rattle.m3_base.specs.Steps.{number_of}
-use Rattle.m3_base.specs.Context.{Context, endpoint}
-use Rattle.m3_base.specs.Land.{grant_of, is_grant, has_send, land_refusal}
-use Rattle.m3_base.specs.State.{Standing, Live, Closing, Grant, State, context_of, grant_in, holder_ep, parent_of, is_done}
-use Rattle.m3_base.specs.Opening.{opening}
+use Rattle.m3_base.specs.Ideal.Step.{number_of, At_issue, IdealResult, ideal_step}
+use Rattle.m3_base.specs.Ideal.Context.{Context, endpoint, Endpoint, Free, Sends, Receives, Reaches}
+use Rattle.m3_base.specs.Ideal.Landing.{grant_of, has_send, land_refusal}
+use Rattle.m3_base.specs.Ideal.State.{is_number}
+use Rattle.m3_base.specs.Ideal.State.{Standing, Live, Closing, Grant, State, context_of, grant_in, holder_ep, parent_of, is_done}
+use Rattle.m3_base.specs.Ideal.Opening.{opening}
 use Rattle.m3_base.specs.Limits.{is_in_limits}
-use Rattle.m3_base.specs.Setup.{SetupValue, IsValid}
-use Rattle.m3_base.specs.Messages.{final}
-use Rattle.m3_base.specs.Credit.{credits, Granted}
+use Rattle.m3_base.specs.Setup.Rules.{SetupValue, IsValid}
+use Rattle.m3_base.specs.Ideal.MessageTraces.{final}
+use Rattle.m3_base.specs.Ideal.Credits.{credits, Granted}
 use Rattle.std.specs.List.{list_any}
-use Rattle.std.specs.Prelude.{length}
 use Rattle.m3_base.specs.declared.packet.Perm.{Perm}
 use Rattle.m3_base.specs.declared.command.Command.{Command}
 use Rattle.m3_base.specs.declared.command.Reply.{Reply}
-use Rattle.m3_base.specs.Context.{Endpoint, Free, Sends, Receives, Reaches}
-use Rattle.m3_base.specs.Receive.{is_full}
-use Rattle.m3_base.specs.Issue.{Told, send_refusal, next_id}
-use Rattle.m3_base.specs.Steps.{At_issue, Next, istep}
+use Rattle.m3_base.specs.Ideal.ReceiveRecord.{is_full}
+use Rattle.m3_base.specs.Ideal.Issue.{IssueOutcome, send_refusal, next_id}
 
 -- live or closing
 abbrev pub is_open : Standing → Bool
@@ -52,7 +50,7 @@ CreditsAt s = (g : ℕ) (x : Grant) → grant_in s.grants g ≡ Some x → is_op
 
 -- no activity has a record of a grant that is closed or done
 abbrev pub RecordsAt : State → Type 0
-RecordsAt s = (g : ℕ) (x : Grant) (a ep : ℕ) (c : Context) → grant_in s.grants g ≡ Some x → is_open x.standing ≡ false → context_of a s.contexts ≡ Some c → is_grant g (grant_of (endpoint c ep)) ≡ false
+RecordsAt s = (g : ℕ) (x : Grant) (a ep : ℕ) (c : Context) → grant_in s.grants g ≡ Some x → is_open x.standing ≡ false → context_of a s.contexts ≡ Some c → is_number g (grant_of (endpoint c ep)) ≡ false
 
 -- under a grant that is done all are done
 abbrev pub ChildrenAt : State → Type 0
@@ -82,38 +80,38 @@ abbrev pub IsPath : List Grant → ℕ → ℕ → List ℕ → Type 0
 IsPath gs r g [] = g ≡ r
 IsPath gs r g (p ∷ ps) = (parent_at (grant_in gs g) ≡ Some p) × IsPath gs r p ps
 
-abbrev pub installs : ℕ → Packet → Bool
-installs g (Packet.Install id to ep f) = number_of f == g
-installs g packet = false
+abbrev pub is_install_of : ℕ → Packet → Bool
+is_install_of g (Packet.Install id to ep f) = number_of f == g
+is_install_of g packet = false
 
-abbrev pub closes : ℕ → Packet → Bool
-closes g (Packet.Close id to ep h) = h == g
-closes g packet = false
+abbrev pub is_close_of : ℕ → Packet → Bool
+is_close_of g (Packet.Close id to ep h) = h == g
+is_close_of g packet = false
 
 -- a message that is no reply, a read or a write, by its grant
-abbrev pub goes_through : ℕ → Packet → Bool
-goes_through g (Packet.Message to ep h m) = (m.header.flags == 0) && (m.header.send == g)
-goes_through g (Packet.Read id h place buffer) = h == g
-goes_through g (Packet.Write id h place payload) = h == g
-goes_through g (Packet.Credit id to h) = false
-goes_through g (Packet.Answer id answer) = false
-goes_through g (Packet.Install id to ep f) = false
-goes_through g (Packet.Close id to ep h) = false
+abbrev pub is_sent_through : ℕ → Packet → Bool
+is_sent_through g (Packet.Message to ep h m) = (m.header.flags == 0) && (m.header.send == g)
+is_sent_through g (Packet.Read id h place buffer) = h == g
+is_sent_through g (Packet.Write id h place payload) = h == g
+is_sent_through g (Packet.Credit id to h) = false
+is_sent_through g (Packet.Answer id answer) = false
+is_sent_through g (Packet.Install id to ep f) = false
+is_sent_through g (Packet.Close id to ep h) = false
 
 -- nothing is left of the grant g but its line, and what comes late for it is discarded or refused
-pub record Gone (s : State) (g : ℕ) (x : Grant) : Type 0 where
+pub record IsGone (s : State) (g : ℕ) (x : Grant) : Type 0 where
   pub done : is_done x.standing ≡ true
-  pub records : (a ep : ℕ) (c : Context) → context_of a s.contexts ≡ Some c → is_grant g (grant_of (endpoint c ep)) ≡ false
-  pub installed : (id : FlightId) (p : Packet) → flight id s.flights ≡ Some p → installs g p ≡ false
-  pub closed : (id : FlightId) (p : Packet) → flight id s.flights ≡ Some p → closes g p ≡ false
+  pub records : (a ep : ℕ) (c : Context) → context_of a s.contexts ≡ Some c → is_number g (grant_of (endpoint c ep)) ≡ false
+  pub installed : (id : FlightId) (p : Packet) → flight id s.flights ≡ Some p → is_install_of g p ≡ false
+  pub closed : (id : FlightId) (p : Packet) → flight id s.flights ≡ Some p → is_close_of g p ≡ false
   -- nothing that was sent through it flies, so no byte is read or written through it
-  pub sent : (id : FlightId) (p : Packet) → flight id s.flights ≡ Some p → goes_through g p ≡ false
+  pub sent : (id : FlightId) (p : Packet) → flight id s.flights ≡ Some p → is_sent_through g p ≡ false
   pub credit : (a : ℕ) (c : Context) → context_of a s.contexts ≡ Some c → has_send g c ≡ false
   pub reply : (a ep : ℕ) (c : Context) (m : Message) → context_of a s.contexts ≡ Some c → land_refusal g m (endpoint c ep) ≡ Some Refusal.Revoked
 
 -- under a grant that is done all are gone
 abbrev pub GoneAt : State → Type 0
-GoneAt s = (r g : ℕ) (y x : Grant) (path : List ℕ) → grant_in s.grants r ≡ Some y → is_done y.standing ≡ true → IsPath s.grants r g path → grant_in s.grants g ≡ Some x → Gone s g x
+GoneAt s = (r g : ℕ) (y x : Grant) (path : List ℕ) → grant_in s.grants r ≡ Some y → is_done y.standing ≡ true → IsPath s.grants r g path → grant_in s.grants g ≡ Some x → IsGone s g x
 
 abbrev pub GoneLaw : Type 0
 GoneLaw = Always GoneAt
@@ -121,7 +119,7 @@ GoneLaw = Always GoneAt
 -- from when a grant is done, all under it are gone
 abbrev pub GoneForever : Type 0
 GoneForever =
-    (setup : SetupValue) (steps more : List Step) → IsValid setup → AllFit steps → AllFit more → (r g : ℕ) (y x : Grant) (path : List ℕ) → grant_in (final (opening setup.memory setup.lines) steps).grants r ≡ Some y → is_done y.standing ≡ true → IsPath (final (opening setup.memory setup.lines) steps).grants r g path → grant_in (final (final (opening setup.memory setup.lines) steps) more).grants g ≡ Some x → Gone (final (final (opening setup.memory setup.lines) steps) more) g x
+    (setup : SetupValue) (steps more : List Step) → IsValid setup → AllFit steps → AllFit more → (r g : ℕ) (y x : Grant) (path : List ℕ) → grant_in (final (opening setup.memory setup.lines) steps).grants r ≡ Some y → is_done y.standing ≡ true → IsPath (final (opening setup.memory setup.lines) steps).grants r g path → grant_in (final (final (opening setup.memory setup.lines) steps) more).grants g ≡ Some x → IsGone (final (final (opening setup.memory setup.lines) steps) more) g x
 
 -- ---- granted bytes
 
@@ -146,7 +144,7 @@ IsSendCause Refusal.NoCredits = Unit {0}
 IsSendCause why = ⊥
 
 abbrev pub SendCauses : Type 0
-SendCauses = (s : State) (a ep : ℕ) (payload : List ℕ) (to : Option ℕ) (n : Next) (why : Refusal) → istep s (Step.Issue a (Command.Send ep payload to)) ≡ Some n → n.word ≡ At_issue (Told.Gives (Reply.Refused why)) → IsSendCause why
+SendCauses = (s : State) (a ep : ℕ) (payload : List ℕ) (to : Option ℕ) (n : IdealResult) (why : Refusal) → ideal_step s (Step.Issue a (Command.Send ep payload to)) ≡ Some n → n.word ≡ At_issue (IssueOutcome.Gives (Reply.Refused why)) → IsSendCause why
 
 -- the first cause for which a send through this endpoint is refused
 abbrev pub send_cause : Context → List ℕ → Option ℕ → Endpoint → Option Refusal
@@ -155,17 +153,17 @@ send_cause c payload to Free = Some Refusal.NoEndpoint
 send_cause c payload to (Receives r) = Some Refusal.NoEndpoint
 send_cause c payload to (Reaches r) = Some Refusal.NoEndpoint
 
-abbrev pub send_told : Context → Option Refusal → Told
-send_told c None = Told.Flies (next_id c)
-send_told c (Some why) = Told.Gives (Reply.Refused why)
+abbrev pub told_of_send : Context → Option Refusal → IssueOutcome
+told_of_send c None = IssueOutcome.Flies (next_id c)
+told_of_send c (Some why) = IssueOutcome.Gives (Reply.Refused why)
 
 -- each send that is issued is refused exactly with its first cause, and flies where it has none
-abbrev pub SendsTold : Type 0
-SendsTold =
-    (s : State) (a ep : ℕ) (payload : List ℕ) (to : Option ℕ) (n : Next) (c : Context)
+abbrev pub SendsHaveCauses : Type 0
+SendsHaveCauses =
+    (s : State) (a ep : ℕ) (payload : List ℕ) (to : Option ℕ) (n : IdealResult) (c : Context)
     → context_of a s.contexts ≡ Some c
-    → istep s (Step.Issue a (Command.Send ep payload to)) ≡ Some n
-    → n.word ≡ At_issue (send_told c (send_cause c payload to (endpoint c ep)))
+    → ideal_step s (Step.Issue a (Command.Send ep payload to)) ≡ Some n
+    → n.word ≡ At_issue (told_of_send c (send_cause c payload to (endpoint c ep)))
 
 abbrev pub has_no_slot : Endpoint → Bool
 has_no_slot (Receives r) = is_full r
@@ -186,7 +184,7 @@ LandCausesAt s =
     → flight id s.flights ≡ Some (Packet.Message to ep h m)
     → (m.header.flags == 0) ≡ true
     → context_of to s.contexts ≡ Some c
-    → land_refusal h m (endpoint c ep) ≡ land_cause (list_any (installs h) s.flights) (has_no_slot (endpoint c ep))
+    → land_refusal h m (endpoint c ep) ≡ land_cause (list_any (is_install_of h) s.flights) (has_no_slot (endpoint c ep))
 
 abbrev pub LandCauses : Type 0
 LandCauses = Always LandCausesAt

@@ -1,4 +1,4 @@
-use Rattle.m3_laws.proofs.Used.{access_law}
+use Rattle.m3_laws.proofs.grants.OpenWhileUsed.{access_law}
 use Rattle.m3_laws.proofs.bytes_are_granted.Goals as goal
 
 pub returns : goal.returns

@@ -1,4 +1,4 @@
-use Rattle.m3_laws.proofs.Fetched.{fetching_order}
+use Rattle.m3_laws.proofs.order.FetchOrder.{fetching_order}
 use Rattle.m3_laws.proofs.fetches_keep_order.Goals as goal
 
 pub returns : goal.returns

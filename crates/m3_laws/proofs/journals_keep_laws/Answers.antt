@@ -1,4 +1,4 @@
-use Rattle.m3_laws.proofs.JournalRuns.{journal_laws}
+use Rattle.m3_laws.proofs.journals.LawsAfterEntries.{journal_laws}
 use Rattle.m3_laws.proofs.journals_keep_laws.Goals as goal
 
 pub returns : goal.returns

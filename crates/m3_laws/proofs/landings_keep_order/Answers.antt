@@ -1,4 +1,4 @@
-use Rattle.m3_laws.proofs.Ordered.{landing_order}
+use Rattle.m3_laws.proofs.order.LandingOrder.{landing_order}
 use Rattle.m3_laws.proofs.landings_keep_order.Goals as goal
 
 pub returns : goal.returns

@@ -1,0 +1,5 @@
+pub mod GrantList
+pub mod OrdersKeepGrants
+pub mod OpenWhileUsed
+pub mod RevokedIsGone
+pub mod DoneStaysDone

@@ -1,0 +1,4 @@
+pub mod step
+pub mod records
+pub mod wellformed
+pub mod commands

@@ -1,0 +1,5 @@
+pub mod RecordsOfGrants
+pub mod OrdersKeepRecords
+pub mod ClosingRecords
+pub mod RecordFormsStay
+pub mod QueueOwners

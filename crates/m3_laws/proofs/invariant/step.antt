@@ -1,0 +1,12 @@
+pub mod CommandRecordsStay
+pub mod IssueEffects
+pub mod ChangeOneContext
+pub mod LookUps
+pub mod ChangeKeepsTraffic
+pub mod IssueKeeps
+pub mod LandKeeps
+pub mod OrdersKeep
+pub mod StepKeeps
+pub mod OpeningHolds
+pub mod Invariant
+pub mod Consequences

@@ -1,0 +1,4 @@
+pub mod EntriesKeepInvariant
+pub mod EntriesAreRun
+pub mod LawsAfterEntries
+pub mod NoConfigInFlight
