@@ -1,0 +1,3 @@
+pub mod Exclusion
+pub mod Flights
+pub mod Lines

@@ -1,0 +1,9 @@
+pub mod Invariant
+pub mod Protocol
+pub mod Ring
+pub mod Others
+pub mod Writer
+pub mod Reader
+pub mod Runs
+pub mod Grants
+pub mod Rows

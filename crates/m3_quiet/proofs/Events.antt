@@ -1,0 +1,14 @@
+pub mod AllKinds
+pub mod Arrivals
+pub mod Calls
+pub mod Deliveries
+pub mod Issue
+pub mod KernelPackets
+pub mod Kinds
+pub mod Landings
+pub mod Orders
+pub mod Statements
+pub mod Switches
+pub mod Takes
+pub mod Tends
+pub mod Turns

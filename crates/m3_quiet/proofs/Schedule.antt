@@ -1,0 +1,4 @@
+pub mod Changes
+pub mod Opening
+pub mod Statements
+pub mod Steps
