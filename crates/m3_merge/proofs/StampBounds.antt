@@ -2,8 +2,9 @@
 use Rattle.std.proofs.Common.{◌≡◌, ℕ, zero, suc, ◌+◌, ◌<◌, ◌≤◌, Bool, true, false, cond, ◌==◌, List, [], ◌∷◌, ◌++◌, length, Option, refl, sym, ap, subst, ◌∙◌, ◌⊎◌, inl, inr, arith}
 use Rattle.std.specs.Prelude.{nat_le, filter, Some, None, IfSome}
 use Rattle.std.proofs.lemmas.Bool.Decides.{nat_tests}
-use Rattle.m3_merge.specs.Parts.{Item, Each, from, to, takes, puts, taken, sent, of_tile, InOrder, IsTimely, Run, MachineRun, stamp_after, Clocked, AreParts, Before, IsOrdered, IsMerged}
-use Rattle.m3_merge.proofs.Merged.{each_append, each_map, each_to, eqb_same, merged_run}
+use Rattle.m3_merge.specs.Interleaving.{Item, from, to, takes, puts, all_taken, all_sent, of_tile, InOrder, IsTimely, Run, MachineRun, stamp_after, Clocked, AreParts, Before, IsOrdered, IsMerged}
+use Rattle.m3_base.specs.Lists.EachElement.{Each}
+use Rattle.m3_merge.proofs.MergedIsRun.{each_append, each_map, each_to, eqb_same, merged_run}
 
 -- P holds of some
 abbrev Has : {X : Type 0} → (X → Type 0) → List X → Type 0
@@ -50,21 +51,21 @@ module _ {E Q : Type 0} where
       (here.0, each_of_tiles P xs (λ t. tail_of_tile P t x xs (x.tile == t) (h t)))
 
   -- what was taken from a link is taken by the entries of its end, and what was put on it is put by those of its beginning
-  taken_go : (s d : ℕ) (x : Item E Q) (xs : List (Item E Q)) (b : Bool) → (x.tile == d) ≡ b → taken s d (of_tile d xs) ≡ taken s d xs
-      → taken s d (cond b (x ∷ of_tile d xs) (of_tile d xs)) ≡ takes s d x ++ taken s d xs
+  taken_go : (s d : ℕ) (x : Item E Q) (xs : List (Item E Q)) (b : Bool) → (x.tile == d) ≡ b → all_taken s d (of_tile d xs) ≡ all_taken s d xs
+      → all_taken s d (cond b (x ∷ of_tile d xs) (of_tile d xs)) ≡ takes s d x ++ all_taken s d xs
   taken_go s d x xs true e ih = ap (λ r. takes s d x ++ r) ih
   taken_go s d x xs false e ih = rw e ih
 
-  taken_of_tile : (s d : ℕ) (xs : List (Item E Q)) → taken s d (of_tile d xs) ≡ taken s d xs
+  taken_of_tile : (s d : ℕ) (xs : List (Item E Q)) → all_taken s d (of_tile d xs) ≡ all_taken s d xs
   taken_of_tile s d [] = refl
   taken_of_tile s d (x ∷ xs) = taken_go s d x xs (x.tile == d) refl (taken_of_tile s d xs)
 
-  sent_go : (s d : ℕ) (x : Item E Q) (xs : List (Item E Q)) (b : Bool) → (x.tile == s) ≡ b → sent s d (of_tile s xs) ≡ sent s d xs
-      → sent s d (cond b (x ∷ of_tile s xs) (of_tile s xs)) ≡ puts s d x ++ sent s d xs
+  sent_go : (s d : ℕ) (x : Item E Q) (xs : List (Item E Q)) (b : Bool) → (x.tile == s) ≡ b → all_sent s d (of_tile s xs) ≡ all_sent s d xs
+      → all_sent s d (cond b (x ∷ of_tile s xs) (of_tile s xs)) ≡ puts s d x ++ all_sent s d xs
   sent_go s d x xs true e ih = ap (λ r. puts s d x ++ r) ih
   sent_go s d x xs false e ih = rw e ih
 
-  sent_of_tile : (s d : ℕ) (xs : List (Item E Q)) → sent s d (of_tile s xs) ≡ sent s d xs
+  sent_of_tile : (s d : ℕ) (xs : List (Item E Q)) → all_sent s d (of_tile s xs) ≡ all_sent s d xs
   sent_of_tile s d [] = refl
   sent_of_tile s d (x ∷ xs) = sent_go s d x xs (x.tile == s) refl (sent_of_tile s d xs)
 
@@ -124,29 +125,29 @@ module _ {E Q : Type 0} (stamp_of : Q → ℕ) where
         | false ↦ tt
       ]
 
-  sent_stands : (s d : ℕ) (all xs : List (Item E Q)) → Each IsOut xs → Each (λ x. Stands all x.stamp) xs → Each (λ q. Stands all (stamp_of q)) (sent s d xs)
+  sent_stands : (s d : ℕ) (all xs : List (Item E Q)) → Each IsOut xs → Each (λ x. Stands all x.stamp) xs → Each (λ q. Stands all (stamp_of q)) (all_sent s d xs)
   sent_stands s d all [] out here = tt
   sent_stands s d all (x ∷ xs) out here =
-      each_append (λ q. Stands all (stamp_of q)) (puts s d x) (sent s d xs) (put_stands s d all x out.0 here.0) (sent_stands s d all xs out.1 here.1)
+      each_append (λ q. Stands all (stamp_of q)) (puts s d x) (all_sent s d xs) (put_stands s d all x out.0 here.0) (sent_stands s d all xs out.1 here.1)
 
   -- what holds of all that is taken holds of what each entry takes
-  took_each : (P : Q → Type 0) (xs : List (Item E Q)) → ((s d : ℕ) → Each P (taken s d xs)) → Each (λ x. IfSome x.took (λ p. P p.1)) xs
+  took_each : (P : Q → Type 0) (xs : List (Item E Q)) → ((s d : ℕ) → Each P (all_taken s d xs)) → Each (λ x. IfSome x.took (λ p. P p.1)) xs
   took_each P [] h = tt
-  took_each P (x ∷ xs) h = (go x.took refl, took_each P xs (λ s d. each_back P (takes s d x) (taken s d xs) (h s d)))
+  took_each P (x ∷ xs) h = (go x.took refl, took_each P xs (λ s d. each_back P (takes s d x) (all_taken s d xs) (h s d)))
     where
       go : (took : Option (ℕ × Q)) → x.took ≡ took → IfSome took (λ p. P p.1)
       go None e = tt
       go (Some p) e =
-          let here : Each P (takes p.0 x.tile x) = each_front P (takes p.0 x.tile x) (taken p.0 x.tile xs) (h p.0 x.tile) in
+          let here : Each P (takes p.0 x.tile x) = each_front P (takes p.0 x.tile x) (all_taken p.0 x.tile xs) (h p.0 x.tile) in
           let there : Each P (cond (p.0 == p.0) (p.1 ∷ []) []) = subst (λ b. Each P (cond b (from p.0 (Some p)) [])) (eqb_same x.tile) (subst (λ o. Each P (cond (x.tile == x.tile) (from p.0 o) [])) e here) in
           (subst (λ b. Each P (cond b (p.1 ∷ []) [])) (eqb_same p.0) there).0
 
-  took_stands : (all : List (Item E Q)) (left : ℕ → ℕ → List Q) → Each IsOut all → ((s d : ℕ) → taken s d all ++ left s d ≡ sent s d all)
+  took_stands : (all : List (Item E Q)) (left : ℕ → ℕ → List Q) → Each IsOut all → ((s d : ℕ) → all_taken s d all ++ left s d ≡ all_sent s d all)
       → Each (λ x. IfSome x.took (λ p. Stands all (stamp_of p.1))) all
   unfolding Stands
   took_stands all left out links =
       took_each (λ q. Stands all (stamp_of q)) all
-      (λ s d. each_front (λ q. Stands all (stamp_of q)) (taken s d all) (left s d)
+      (λ s d. each_front (λ q. Stands all (stamp_of q)) (all_taken s d all) (left s d)
       (subst (Each (λ q. Stands all (stamp_of q))) (sym (links s d)) (sent_stands s d all all out (each_has (λ x y. y.stamp ≡ x.stamp) (λ x. refl) all))))
 
 module _ {S E Q : Type 0} (Step : ℕ → S → Item E Q → S → Type 0) (stamp_of : Q → ℕ) (cap : ℕ) where
@@ -218,8 +219,8 @@ module _ {S E Q : Type 0} (Step : ℕ → S → Item E Q → S → Type 0) (stam
   unfolding Says IsOut Stands
   parts_run opening items last left xs parts merged short =
       let runs = λ (t : ℕ). subst (λ ys. Run (Clocked Step stamp_of cap) t (0, opening t) ys (last t)) (sym (merged.tiles t)) (parts.runs t) in
-      let links = λ (s d : ℕ). subst (λ k. k ++ left s d ≡ sent s d xs) (ap (taken s d) (sym (merged.tiles d)) ∙ taken_of_tile s d xs)
-      (parts.links s d ∙ (ap (sent s d) (sym (merged.tiles s)) ∙ sent_of_tile s d xs)) in
+      let links = λ (s d : ℕ). subst (λ k. k ++ left s d ≡ all_sent s d xs) (ap (all_taken s d) (sym (merged.tiles d)) ∙ taken_of_tile s d xs)
+      (parts.links s d ∙ (ap (all_sent s d) (sym (merged.tiles s)) ∙ sent_of_tile s d xs)) in
       let said = each_of_tiles Says xs (λ t. run_says t (0, opening t) (of_tile t xs) (last t) (runs t)) in
       let here = each_has (λ (x y : Item E Q). y.stamp ≡ x.stamp) (λ x. refl) xs in
       let took = took_stands stamp_of xs left (each_map Says (IsOut stamp_of) (λ x s. s.0) xs said) links in

@@ -1,7 +1,8 @@
 -- Entries in the order of their stamps are a run of the machine.
 use Rattle.std.proofs.Common.{◌≡◌, ℕ, ◌<◌, ◌≤◌, Bool, true, false, cond, ◌==◌, List, [], ◌∷◌, ◌++◌, Option, refl, sym, subst, ◌∙◌, append_assoc, append-nil, arith}
 use Rattle.std.specs.Prelude.{Some, None, IfSome}
-use Rattle.m3_merge.specs.Parts.{Item, Machine, either, Each, from, to, takes, puts, taken, sent, of_tile, InOrder, IsTimely, Run, MachineRun}
+use Rattle.m3_merge.specs.Interleaving.{Item, Machine, either, from, to, takes, puts, all_taken, all_sent, of_tile, InOrder, IsTimely, Run, MachineRun}
+use Rattle.m3_base.specs.Lists.EachElement.{Each}
 
 module _ {Q : Type 0} where
   pub each_append : (P : Q → Type 0) (xs ys : List Q) → Each P xs → Each P ys → Each P (xs ++ ys)
@@ -48,10 +49,10 @@ module _ {E Q : Type 0} (stamp_of : Q → ℕ) where
         | false ↦ tt
       ]
 
-  late_sent : (n s d : ℕ) (xs : List (Item E Q)) → Each (λ y. n ≤ y.stamp) xs → Each (IsTimely stamp_of) xs → Each (λ q. n ≤ stamp_of q) (sent s d xs)
+  late_sent : (n s d : ℕ) (xs : List (Item E Q)) → Each (λ y. n ≤ y.stamp) xs → Each (IsTimely stamp_of) xs → Each (λ q. n ≤ stamp_of q) (all_sent s d xs)
   late_sent n s d [] h timely = tt
   late_sent n s d (x ∷ xs) h timely =
-      each_append (λ q. n ≤ stamp_of q) (puts s d x) (sent s d xs) (late_puts n s d x h.0 timely.0) (late_sent n s d xs h.1 timely.1)
+      each_append (λ q. n ≤ stamp_of q) (puts s d x) (all_sent s d xs) (late_puts n s d x h.0 timely.0) (late_sent n s d xs h.1 timely.1)
 
   early_takes : (s d : ℕ) (x : Item E Q) → IsTimely stamp_of x → Each (λ q. stamp_of q < x.stamp) (takes s d x)
   early_takes s d x timely =
@@ -71,14 +72,14 @@ module _ {S E Q : Type 0} (Step : ℕ → S → Item E Q → S → Type 0) (stam
   -- and what is left, are what it holds and what is put on it, then they are a run of the machine, to the parts' last states and what is left
   pub merged_run : (xs : List (Item E Q)) (m : Machine S Q) (last : ℕ → S) (left : ℕ → ℕ → List Q)
       → ((t : ℕ) → Run Step t (m.parts t) (of_tile t xs) (last t))
-      → ((s d : ℕ) → taken s d xs ++ left s d ≡ m.links s d ++ sent s d xs)
+      → ((s d : ℕ) → all_taken s d xs ++ left s d ≡ m.links s d ++ all_sent s d xs)
       → InOrder xs → Each (IsTimely stamp_of) xs
       → MachineRun Step m xs (record { parts = last; links = left })
   merged_run [] m last left runs flow order timely =
       λ i. record { parts = λ t. runs t i; links = λ s d. (sym (append-nil (m.links s d)) ∙ sym (flow s d)) i }
   merged_run (x ∷ xs) m last left runs flow order timely =
       let part = λ (t : ℕ). advance t x (of_tile t xs) (m.parts t) (last t) (x.tile == t) (runs t) in
-      let link = λ (s d : ℕ). link_step stamp_of x.stamp (takes s d x) (puts s d x) (taken s d xs) (sent s d xs) (left s d) (m.links s d)
+      let link = λ (s d : ℕ). link_step stamp_of x.stamp (takes s d x) (puts s d x) (all_taken s d xs) (all_sent s d xs) (left s d) (m.links s d)
       (early_takes stamp_of s d x timely.0)
       (late_sent stamp_of x.stamp s d (x ∷ xs) (omega arith, order.0) timely)
       (flow s d) in

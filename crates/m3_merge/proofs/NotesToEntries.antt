@@ -1,10 +1,11 @@
 -- From the parts' notes to their entries.
 use Rattle.std.proofs.Common.{◌≡◌, ℕ, ◌≤◌, Bool, true, false, cond, ◌==◌, List, [], ◌∷◌, length, refl, sym, ap, subst, ◌∙◌, arith}
 use Rattle.std.specs.Prelude.{map}
-use Rattle.m3_merge.specs.Parts.{Item, Machine, either, Each, of_tile, Run, Moves, MachineRun, Clocked, unclocked, notes_of, NotedBefore, AreOrdered, AreMerged, Before, IsOrdered, IsMerged, AreParts}
+use Rattle.m3_merge.specs.Interleaving.{Item, Machine, either, of_tile, Run, Moves, MachineRun, Clocked, without_clocks, notes_of, NotedBefore, AreOrdered, AreMerged, Before, IsOrdered, IsMerged, AreParts}
+use Rattle.m3_base.specs.Lists.EachElement.{Each}
 use Rattle.std.proofs.lemmas.Bool.Decides.{nat_tests}
-use Rattle.m3_merge.proofs.Merged.{eqb_same}
-use Rattle.m3_merge.proofs.Stamps.{parts_run}
+use Rattle.m3_merge.proofs.MergedIsRun.{eqb_same}
+use Rattle.m3_merge.proofs.StampBounds.{parts_run}
 
 module _ {S E Q : Type 0} (Step : ℕ → S → Item E Q → S → Type 0) (stamp_of : Q → ℕ) (cap : ℕ) where
   drop_clock : (b : Bool) (t : ℕ) (x : Item E Q) (p q : ℕ × S) → either b (Clocked Step stamp_of cap t p x q) (q ≡ p) → either b (Step t p.1 x q.1) (q.1 ≡ p.1)
@@ -12,10 +13,10 @@ module _ {S E Q : Type 0} (Step : ℕ → S → Item E Q → S → Type 0) (stam
   drop_clock false t x p q e = ap (λ r. r.1) e
 
   -- the run without clocks
-  pub unclocked_run : (xs : List (Item E Q)) (m n : Machine (ℕ × S) Q) → MachineRun (Clocked Step stamp_of cap) m xs n → MachineRun Step (unclocked m) xs (unclocked n)
-  unclocked_run [] m n e = ap unclocked e
+  pub unclocked_run : (xs : List (Item E Q)) (m n : Machine (ℕ × S) Q) → MachineRun (Clocked Step stamp_of cap) m xs n → MachineRun Step (without_clocks m) xs (without_clocks n)
+  unclocked_run [] m n e = ap without_clocks e
   unclocked_run (x ∷ xs) m n r =
-      (unclocked r.0, record { parts = λ t. drop_clock (x.tile == t) t x (m.parts t) (r.0.parts t) (r.1.parts t); links = r.1.links }, unclocked_run xs r.0 n r.2)
+      (without_clocks r.0, record { parts = λ t. drop_clock (x.tile == t) t x (m.parts t) (r.0.parts t) (r.1.parts t); links = r.1.links }, unclocked_run xs r.0 n r.2)
 
 module _ {E Q R : Type 0} (stamp_in : R → ℕ) (note : Item E Q → R) (same_stamp : (x : Item E Q) → stamp_in (note x) ≡ x.stamp) where
   abbrev pub tagged : Item E Q → ℕ × R

@@ -1,0 +1,3 @@
+pub mod KnownActivities
+pub mod FromSetup
+pub mod Site

@@ -1,0 +1,17 @@
+pub mod Machine
+pub mod Ways
+pub mod KernelNumber
+pub mod Events
+pub mod Config
+pub mod Kernel
+pub mod Tile
+pub mod Memory
+pub mod Abstraction
+pub mod Refinement
+pub mod LocalMoves
+pub mod NumberBounds
+pub mod ContextTable
+pub mod Examples
+pub mod Parcel
+pub mod LocalStep
+pub mod Invariant

@@ -1,0 +1,9 @@
+pub mod lists
+pub mod abstraction
+pub mod arrival
+pub mod events
+pub mod opening
+pub mod bounds
+pub mod labels
+pub mod ways
+pub mod theorem

@@ -1,0 +1,12 @@
+pub mod MoveWithinMachine
+pub mod MoveContext
+pub mod FindActor
+pub mod ChangeContext
+pub mod ChangeCurrentContext
+pub mod PopParcel
+pub mod PushParcel
+pub mod ReplaceEntry
+pub mod EntriesMatchActors
+pub mod ClosedGrants
+pub mod CurrentAlongLink
+pub mod OpeningLines

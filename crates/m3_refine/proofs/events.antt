@@ -1,0 +1,4 @@
+pub mod command
+pub mod take
+pub mod tend
+pub mod order

@@ -1,0 +1,4 @@
+pub mod SwitchRefines
+pub mod RevokeRefines
+pub mod CloseRefines
+pub mod SwitchLists

@@ -1,0 +1,14 @@
+pub mod TakeRefines
+pub mod EmptyLink
+pub mod TileTakesData
+pub mod BounceStep
+pub mod TileTakesSaveOrBounces
+pub mod KernelTakesSavedStep
+pub mod KernelTakesSaved
+pub mod RestoreGoesOut
+pub mod TileTakesRestore
+pub mod RouteStep
+pub mod RouteRefines
+pub mod KernelTakesDataOrYield
+pub mod KernelTakesClosed
+pub mod MemoryServes

@@ -1,0 +1,2 @@
+pub mod ApplyHeldPacket
+pub mod TendRefines

@@ -1,0 +1,4 @@
+pub mod EventSaysIdealSteps
+pub mod OrdersSayIdealSteps
+pub mod OutcomeBelongs
+pub mod CommandOutcomeBelongs

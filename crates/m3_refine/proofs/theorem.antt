@@ -1,0 +1,2 @@
+pub mod NoProgramMoves
+pub mod StepIsLocalMove

@@ -1,0 +1,9 @@
+pub mod InstallsFirst
+pub mod WayLists
+pub mod WaySteps
+pub mod WayFronts
+pub mod WayHeld
+pub mod WayOpens
+pub mod KernelWays
+pub mod TileWays
+pub mod PlainPackets

@@ -1,0 +1,15 @@
+pub mod DriverTendClose
+pub mod FlightCountBound
+pub mod CountFlights
+pub mod FromIdealInvariant
+pub mod IdleStays
+pub mod StepRefinement
+pub mod DriverIsMachines
+pub mod DriverTake
+pub mod OpeningUnchanged
+pub mod DriverNext
+pub mod RunRefinement
+pub mod StepKeepsBounds
+pub mod ConfigUnchanged
+pub mod TraceGrows
+pub mod ValidSetup

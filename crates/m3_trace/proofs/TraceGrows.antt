@@ -1,0 +1,102 @@
+-- A journal grows by an entry with each step of its machine, and what its clauses say of the whole.
+use Rattle.std.proofs.Common.{◌≡◌, ℕ, ◌+◌, ◌<◌, ◌≤◌, List, [], ◌∷◌, ◌++◌, length, length-append, None, Some, refl, sym, subst, ap, ◌∙◌, arith}
+use Rattle.m3_base.specs.declared.event.Event.{Event}
+use Rattle.m3_base.specs.declared.event.Entry.{Entry}
+use Rattle.m3_base.specs.declared.event.Outcome.{Outcome}
+use Rattle.m3_base.specs.declared.order.Order.{Order}
+use Rattle.m3_base.specs.Journal.Entry.{state_after_entries, IsRun, steps_of}
+use Rattle.m3_base.specs.Journal.Replies.{steps_in}
+use Rattle.m3_base.specs.Ideal.Opening.{opening}
+use Rattle.m3_base.specs.Placement.State.{Placement}
+use Rattle.m3_base.specs.Placement.Opening.{opening_placement}
+use Rattle.m3_base.specs.Setup.Rules.{SetupValue, IsValid}
+use Rattle.m3_base.specs.Ideal.State.{State}
+use Rattle.m3_laws.specs.JournalLaws.{FitsEvent, KeepsLaws, AfterEach}
+use Rattle.m3_laws.specs.Laws.{AllFit}
+use Rattle.m3_laws.proofs.journals.EntriesKeepInvariant.{event_fits}
+use Rattle.m3_laws.proofs.journals.LawsAfterEntries.{fit_both, fit_front, fit_back, journal_laws}
+use Rattle.m3_model.specs.Abstraction.{ideal_of, placement_of}
+use Rattle.m3_model.specs.Events.{IsOfSetup, IsServed, IsWithin}
+use Rattle.m3_model.specs.NumberBounds.{CountersBounded}
+use Rattle.m3_model.specs.Machine.{Machine, machine_step}
+use Rattle.m3_model.specs.KernelNumber.{HasLowKernel}
+use Rattle.m3_model.specs.Ways.{IsOnWay}
+use Rattle.m3_refine.proofs.bounds.KernelNumber.{low_kernel}
+use Rattle.m3_refine.proofs.ways.WaySteps.{way_kept}
+use Rattle.m3_refine.proofs.ways.WayOpens.{opens_way, opens_low_kernel}
+use Rattle.m3_trace.specs.Invariant.{MachineInvariant, StepRefines, PlacementRun, RunRefines}
+use Rattle.m3_trace.specs.Opening.{site, opened_by_setup, entry}
+use Rattle.m3_trace.specs.Trace.{IsTrace}
+use Rattle.m3_trace.proofs.FlightCountBound.{journal_few}
+use Rattle.m3_trace.proofs.StepRefinement.{means}
+use Rattle.m3_trace.proofs.RunRefinement.{none_ran, more_ran, opened_kept}
+use Rattle.m3_trace.proofs.StepKeepsBounds.{step_low, low_comes}
+use Rattle.m3_trace.proofs.ValidSetup.{opens_as}
+
+-- ---- what orders name
+
+served_fits : (e : Event) → IsServed e → FitsEvent e
+served_fits (Event.Do a c) k = tt
+served_fits (Event.Take to from) k = tt
+served_fits (Event.Tend a) k = tt
+served_fits (Event.Order (Order.Switch t a)) k = tt
+served_fits (Event.Order (Order.Grant line)) k = absurd k
+served_fits (Event.Order (Order.Revoke g)) k = absurd k
+served_fits (Event.Turn a) k = absurd k
+served_fits Event.Close k = absurd k
+served_fits (Event.File l) k = absurd k
+
+more_fit : (es : List Entry) (x : Entry) → AllFit (steps_in es) → AllFit (steps_of x.event x.outcome) → AllFit (steps_in (es ++ x ∷ []))
+more_fit [] x fit new = fit_both (steps_of x.event x.outcome) [] new tt
+more_fit (e ∷ es) x fit new =
+    fit_both (steps_of e.event e.outcome) (steps_in (es ++ x ∷ [])) (fit_front (steps_of e.event e.outcome) (steps_in es) fit)
+    (more_fit es x (fit_back (steps_of e.event e.outcome) (steps_in es) fit) new)
+
+-- the journal of a machine that was opened has no entry
+pub opened_trace : (s : SetupValue) → IsValid s → CountersBounded 0 (opened_by_setup s) → IsTrace s [] (opened_by_setup s)
+opened_trace s valid low = record { valid = valid; few = omega arith; low = low; number = opens_low_kernel s.memory [] s.lines; way = opens_way (site s) (opening s.memory s.lines); ran = none_ran (site s) (opened_by_setup s) (opened_kept s valid); fit = tt }
+
+module _ (s : SetupValue) (entries : List Entry) (m : Machine) (trace : IsTrace s entries m) where
+  -- what a step means
+  pub step_means : (e : Event) (o : Outcome) (next : Machine) → IsOfSetup (site s) e → IsWithin e → IsServed e → machine_step (site s) m e None ≡ Some (record { outcome = o; machine = next }) → StepRefines (site s) m (entry e o) next
+  step_means e o next own within served step = means (site s) m e o next step trace.ran.kept (low_comes (length entries) m trace.few trace.low) own within served
+
+  -- a step adds its entry
+  pub more_trace : (e : Event) (o : Outcome) (next : Machine) → length entries < 2097152 → IsOfSetup (site s) e → IsWithin e → IsServed e → machine_step (site s) m e None ≡ Some (record { outcome = o; machine = next })
+      → IsTrace s (entries ++ entry e o ∷ []) next
+  more_trace e o next room own within served step =
+      let one : length (entries ++ entry e o ∷ []) ≡ length entries + 1 = length-append entries (entry e o ∷ []) in
+      record {
+        valid = trace.valid;
+        few = omega arith;
+        low = subst (λ (n : ℕ). CountersBounded n next) (sym one) (step_low (site s) (length entries) m trace.low e (record { outcome = o; machine = next }) served step);
+        number = subst (λ (n : ℕ). HasLowKernel n next) (sym one) (low_kernel (site s) m e None (length entries) (record { outcome = o; machine = next }) trace.number step);
+        way = way_kept (site s) m trace.ran.kept.sound trace.way e None (record { outcome = o; machine = next }) within step;
+        ran = more_ran (site s) (opened_by_setup s) m next entries (entry e o) trace.ran (step_means e o next own within served step);
+        fit = more_fit entries (entry e o) trace.fit (event_fits e o (served_fits e served));
+      }
+
+  -- ---- what the journal is
+
+  abbrev start : State
+  start = opening s.memory s.lines
+
+  pub trace_run : IsRun start entries
+  trace_run = subst (λ (x : State). IsRun x entries) (opens_as s trace.valid).0 trace.ran.run
+
+  pub trace_reaches : state_after_entries start entries ≡ ideal_of m
+  trace_reaches = ap (λ (x : State). state_after_entries x entries) (sym (opens_as s trace.valid).0) ∙ trace.ran.reaches
+
+  pub trace_places : PlacementRun start (opening_placement [] s.lines) entries (placement_of (site s) m)
+  trace_places =
+      subst (λ (x : State). PlacementRun x (opening_placement [] s.lines) entries (placement_of (site s) m)) (opens_as s trace.valid).0 (
+      subst (λ (p : Placement). PlacementRun (ideal_of (opened_by_setup s)) p entries (placement_of (site s) m)) (opens_as s trace.valid).1 trace.ran.places
+      )
+
+  -- flights are few
+  pub trace_few : length (ideal_of m).flights ≤ 4294967295
+  trace_few = subst (λ (x : State). length x.flights ≤ 4294967295) trace_reaches (journal_few s.memory s.lines entries trace.few)
+
+  -- the laws hold after every entry
+  pub trace_laws : AfterEach (KeepsLaws start) entries
+  trace_laws = journal_laws s entries trace.valid trace.fit trace_run

@@ -1,0 +1,6 @@
+pub mod StepsRefine
+pub mod IdleOutcomes
+pub mod Invariant
+pub mod DriverOfMachine
+pub mod Opening
+pub mod Trace
