@@ -1,5 +1,5 @@
-pub mod Sound
-pub mod Refused
-pub mod Places
-pub mod Credits
-pub mod Totals
+pub mod ReplyCreditFits
+pub mod Positions
+pub mod RefusedReply
+pub mod MessageInvariant
+pub mod SumPush

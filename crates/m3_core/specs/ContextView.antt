@@ -1,7 +1,7 @@
 -- What a context is to a reader, and what it keeps.
 use Rattle.std.specs.Prelude.{◌≡◌, ◌≤◌, length, vec_capacity}
-use Rattle.m3_base.specs.Context.{Context}
-use Rattle.m3_base.specs.Issue.{window}
+use Rattle.m3_base.specs.Ideal.Context.{Context}
+use Rattle.m3_base.specs.Ideal.Issue.{window}
 use Rattle.m3_core.specs.declared.context.Context.TheInside.{Inside}
 
 abbrev pub context_of : Inside → Context

@@ -1,5 +1,5 @@
 -- What a flying command is to a reader.
-use Rattle.m3_base.specs.Context.{Flying, Kind as Meaning, Sending, Replying, Reading, Writing}
+use Rattle.m3_base.specs.Ideal.Context.{Flying, Kind as Meaning, Sending, Replying, Reading, Writing}
 use Rattle.m3_core.specs.declared.flying.Kind.{Kind}
 use Rattle.m3_core.specs.declared.flying.Flying.TheInside.{Inside}
 

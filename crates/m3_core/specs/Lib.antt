@@ -1,9 +1,9 @@
 pub mod FlyingView
-pub mod Sound
 pub mod SlotView
-pub mod Slots
-pub mod Places
 pub mod ContextView
-pub mod Issuing
-pub mod Arriving
-pub mod Conditions
+pub mod ArrivalView
+pub mod Preconditions
+pub mod IssueView
+pub mod Positions
+pub mod EndpointStep
+pub mod MessageInvariant

@@ -1,10 +1,10 @@
 -- What a slot is to a reader, and what it keeps: sound messages, and an unused receive record wherever it hasn't a used
 -- one.
 use Rattle.std.specs.Prelude.{◌≡◌, Option, Some, None}
-use Rattle.m3_base.specs.Context.{ReceiveRecord, Endpoint}
+use Rattle.m3_base.specs.Ideal.Context.{ReceiveRecord, Endpoint}
 use Rattle.m3_endpoint.specs.declared.endpoint.Record.{Record}
-use Rattle.m3_endpoint.specs.Records.{endpoint_of}
-use Rattle.m3_core.specs.Sound.{IsSoundIn}
+use Rattle.m3_endpoint.specs.RecordView.{endpoint_of}
+use Rattle.m3_core.specs.MessageInvariant.{IsSoundIn}
 use Rattle.m3_core.specs.declared.slot.Slot.TheInside.{Inside}
 
 abbrev pub slot_endpoint : Inside → Endpoint

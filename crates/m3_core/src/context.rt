@@ -6,13 +6,13 @@ mod fits;
 mod issue;
 
 ghost use Rattle.std.specs.Prelude.{◌≡◌, ℕ, ◌+◌, ◌<◌, ◌≤◌, [], ◌∷◌, ◌++◌, length, replicate, false, IfOk, IsTrue, option_copied};
-ghost use Rattle.m3_base.specs.Context.{Free, new_context, endpoint, with_endpoint, opened};
-ghost use Rattle.m3_base.specs.Issue.{window, is_busy, next_id, launched};
+ghost use Rattle.m3_base.specs.Ideal.Context.{Free, new_context, endpoint, with_endpoint, new_endpoint};
+ghost use Rattle.m3_base.specs.Ideal.Issue.{window, is_busy, next_id, with_flying_command};
 ghost use Rattle.m3_core.specs.FlyingView.{kind_of};
-ghost use Rattle.m3_base.specs.Fits.{is_form};
-ghost use Rattle.m3_endpoint.specs.Records.{endpoint_of};
-ghost use Rattle.m3_core.specs.Sound.{IsSoundRecord};
-ghost use Rattle.m3_core.specs.Slots.{oldest_at, fetched_message_at};
+ghost use Rattle.m3_base.specs.Ideal.Acceptance.{is_form};
+ghost use Rattle.m3_endpoint.specs.RecordView.{endpoint_of};
+ghost use Rattle.m3_core.specs.MessageInvariant.{IsSoundRecord};
+ghost use Rattle.m3_core.specs.EndpointStep.{oldest_at, fetched_message_at};
 
 use crate::flying::{Flying, Kind};
 use crate::slot::Slot;
@@ -37,7 +37,7 @@ pub struct Context {
 }
 
 impl Model for Context {
-    ghost use Rattle.m3_base.specs.Context.{Context as Meaning};
+    ghost use Rattle.m3_base.specs.Ideal.Context.{Context as Meaning};
 
     ghost Value = { Meaning };
 
@@ -131,7 +131,7 @@ impl Context {
     pub fn install(&mut self, ep: EpId, fresh: Fresh)
         requires free { endpoint self.old ep ≡ Free }
         requires form { IsTrue (is_form fresh) }
-        ensures { self.new ≡ with_endpoint self.old ep (opened fresh) }
+        ensures { self.new ≡ with_endpoint self.old ep (new_endpoint fresh) }
     {
         self.slots[ep.number() as usize].install(&fresh);
     }
@@ -150,7 +150,7 @@ impl Context {
     fn launch(&mut self, kind: Kind, ep: EpId, token: u32)
         requires room { is_busy self.old ≡ false }
         requires number { self.old.next < 4294967295 }
-        ensures { self.new ≡ launched self.old (kind_of kind) ep token }
+        ensures { self.new ≡ with_flying_command self.old (kind_of kind) ep token }
     {
         let number = self.next;
         self.next += 1;

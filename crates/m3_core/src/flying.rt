@@ -26,7 +26,7 @@ pub struct Flying {
 }
 
 impl Model for Flying {
-    ghost use Rattle.m3_base.specs.Context.{Flying as Meaning};
+    ghost use Rattle.m3_base.specs.Ideal.Context.{Flying as Meaning};
 
     ghost Value = { Meaning };
 

@@ -7,5 +7,3 @@ pub mod flying;
 pub mod issued;
 pub mod parcel;
 mod slot;
-#[cfg(test)]
-mod tests;

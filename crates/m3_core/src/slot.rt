@@ -1,12 +1,12 @@
 //! One endpoint of a context.
 
 ghost use Rattle.std.specs.Prelude.{◌≡◌, ℕ, ◌<◌, ◌↔◌, true, false, IsTrue, IsSome, IfOk, None, Some, length, option_copied};
-ghost use Rattle.m3_base.specs.Context.{Free, opened};
-ghost use Rattle.m3_base.specs.Issue.{live_receive};
-ghost use Rattle.m3_base.specs.Land.{grant_of, is_closing, has_live, closed_at};
-ghost use Rattle.m3_base.specs.Fits.{is_form, is_free};
-ghost use Rattle.m3_endpoint.specs.Records.{endpoint_of};
-ghost use Rattle.m3_core.specs.Sound.{IsSoundRecord};
+ghost use Rattle.m3_base.specs.Ideal.Context.{Free, new_endpoint};
+ghost use Rattle.m3_base.specs.Ideal.Issue.{live_receive};
+ghost use Rattle.m3_base.specs.Ideal.Landing.{grant_of, is_closing, has_live, closed_at};
+ghost use Rattle.m3_base.specs.Ideal.Acceptance.{is_form, is_free};
+ghost use Rattle.m3_endpoint.specs.RecordView.{endpoint_of};
+ghost use Rattle.m3_core.specs.MessageInvariant.{IsSoundRecord};
 
 mod commands;
 mod packets;
@@ -46,7 +46,7 @@ pub struct Slot {
 }
 
 impl Model for Slot {
-    ghost use Rattle.m3_base.specs.Context.{Endpoint};
+    ghost use Rattle.m3_base.specs.Ideal.Context.{Endpoint};
 
     ghost Value = { Endpoint };
 
@@ -135,7 +135,7 @@ impl Slot {
     pub fn install(&mut self, fresh: &Fresh)
         requires free { self.old ≡ Free }
         requires form { IsTrue (is_form fresh.now) }
-        ensures { self.new ≡ opened fresh.now }
+        ensures { self.new ≡ new_endpoint fresh.now }
     {
         match fresh {
             Fresh::Send { .. } => self.occupant = Record::Send(SendEp::new(fresh)),

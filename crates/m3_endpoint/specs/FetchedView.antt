@@ -1,5 +1,5 @@
 -- What a fetched message is to a reader.
-use Rattle.m3_base.specs.Context.{Fetched}
+use Rattle.m3_base.specs.Ideal.Context.{Fetched}
 use Rattle.m3_endpoint.specs.declared.fetched.FetchedMessage.TheInside.{Inside}
 
 abbrev pub fetched_message : Inside → Fetched

@@ -1,10 +1,10 @@
 -- What a receive record is to a reader, and what it keeps: room for all its slots, from the start.
 use Rattle.std.specs.Prelude.{◌≡◌, ◌+◌, ◌≤◌, false, [], length, Option, Some, None, if◌then◌else◌, vec_capacity, IsTrue}
-use Rattle.m3_base.specs.Context.{ReceiveRecord}
-use Rattle.m3_base.specs.Fits.{is_form}
+use Rattle.m3_base.specs.Ideal.Context.{ReceiveRecord}
+use Rattle.m3_base.specs.Ideal.Acceptance.{is_form}
 use Rattle.m3_endpoint.specs.declared.receive.ReceiveEp.TheInside.{Inside}
-use Rattle.m3_endpoint.specs.Order.{AreOrdered}
-use Rattle.m3_endpoint.specs.Forms.{receive_form}
+use Rattle.m3_endpoint.specs.TokenOrder.{AreOrdered}
+use Rattle.m3_endpoint.specs.RecordForms.{receive_form}
 
 abbrev pub messages : Inside → ReceiveRecord
 messages s =

@@ -1,9 +1,9 @@
 -- What a send record is to a reader, and what it keeps.
 use Rattle.std.specs.Prelude.{◌≤◌, IsTrue}
-use Rattle.m3_base.specs.Context.{SendRecord}
-use Rattle.m3_base.specs.Fits.{is_form}
+use Rattle.m3_base.specs.Ideal.Context.{SendRecord}
+use Rattle.m3_base.specs.Ideal.Acceptance.{is_form}
 use Rattle.m3_endpoint.specs.declared.send.SendEp.TheInside.{Inside}
-use Rattle.m3_endpoint.specs.Forms.{send_form}
+use Rattle.m3_endpoint.specs.RecordForms.{send_form}
 
 abbrev pub send_record : Inside → SendRecord
 send_record s =

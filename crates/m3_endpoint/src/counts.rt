@@ -1,6 +1,6 @@
 //! Counts by number.
 
-ghost use Rattle.m3_endpoint.specs.Counts.{only, Adds};
+ghost use Rattle.m3_endpoint.specs.Counters.{only, Adds};
 
 /// The count of this number rises by `more`, up to the largest number. A number past the counts has none.
 pub fn raise(counts: &mut [u32], number: u32, more: u32)

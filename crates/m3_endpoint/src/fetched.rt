@@ -2,9 +2,9 @@
 
 ghost use Rattle.std.specs.Prelude.{◌≡◌, ℕ, ◌==◌, ◌≤◌, false, length, vec_capacity};
 ghost use Rattle.std.specs.List.{position};
-ghost use Rattle.m3_base.specs.Receive.{without_token, with_mark};
-ghost use Rattle.m3_endpoint.specs.Order.{AreOrdered};
-ghost use Rattle.m3_endpoint.specs.Places.{IsPlaceOf};
+ghost use Rattle.m3_base.specs.Ideal.ReceiveRecord.{without_token, with_mark};
+ghost use Rattle.m3_endpoint.specs.TokenOrder.{AreOrdered};
+ghost use Rattle.m3_endpoint.specs.TokenPosition.{IsPlaceOf};
 
 use m3_base::message::Message;
 use std::marker::Model;
@@ -18,7 +18,7 @@ pub struct FetchedMessage {
 }
 
 impl Model for FetchedMessage {
-    ghost use Rattle.m3_base.specs.Context.{Fetched};
+    ghost use Rattle.m3_base.specs.Ideal.Context.{Fetched};
 
     ghost Value = { Fetched };
 
@@ -69,7 +69,7 @@ impl FetchedMessage {
 }
 
 /// The place of the message of this token. None exactly where there is none.
-#[tactic(auto, using(crate::proofs::Places::is_place))]
+#[tactic(auto, using(crate::proofs::TokenPosition::is_place))]
 pub fn place_of(fetched: &[FetchedMessage], token: u32) -> Option<usize>
     ensures { IsPlaceOf fetched.now token result }
 {
@@ -77,7 +77,7 @@ pub fn place_of(fetched: &[FetchedMessage], token: u32) -> Option<usize>
 }
 
 /// The message of this token, where there is one, is being replied to, or no more.
-#[tactic(auto, using(crate::proofs::Order::ordered_mark))]
+#[tactic(auto, using(crate::proofs::TokenOrder::ordered_mark))]
 pub fn mark(fetched: &mut [FetchedMessage], token: u32, marked: bool)
     ensures list { fetched.new ≡ with_mark marked token fetched.old }
     ensures ordered { (next : ℕ) → AreOrdered 0 fetched.old next → AreOrdered 0 fetched.new next }
@@ -88,7 +88,7 @@ pub fn mark(fetched: &mut [FetchedMessage], token: u32, marked: bool)
 }
 
 /// The message of this token, where there is one, is gone.
-#[tactic(auto, using(crate::proofs::Order::ordered_without))]
+#[tactic(auto, using(crate::proofs::TokenOrder::ordered_without))]
 pub fn remove(fetched: &mut Vec<FetchedMessage>, token: u32)
     ensures list { fetched.new.items ≡ without_token token fetched.old.items }
     ensures len { length fetched.new.items ≤ length fetched.old.items }

@@ -7,5 +7,3 @@ mod fetched;
 pub mod memory;
 pub mod receive;
 pub mod send;
-#[cfg(test)]
-mod tests;

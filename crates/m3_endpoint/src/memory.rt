@@ -1,10 +1,10 @@
 //! Memory records: a range of memory, and what may be done there.
 
 ghost use Rattle.std.specs.Prelude.{◌≡◌, ℕ, IsTrue, true};
-ghost use Rattle.m3_base.specs.Context.{Reaches, opened};
-ghost use Rattle.m3_base.specs.Fits.{is_form};
-ghost use Rattle.m3_endpoint.specs.Forms.{IsMemoryForm, memory_form};
-ghost use Rattle.m3_endpoint.specs.Memory.{permits, place_or_refusal, range_refusal};
+ghost use Rattle.m3_base.specs.Ideal.Context.{Reaches, new_endpoint};
+ghost use Rattle.m3_base.specs.Ideal.Acceptance.{is_form};
+ghost use Rattle.m3_endpoint.specs.RecordForms.{IsMemoryForm, memory_form};
+ghost use Rattle.m3_endpoint.specs.MemoryAccess.{permits, place_or_refusal, range_refusal};
 
 use m3_base::command::Refusal;
 use m3_base::ids::GrantId;
@@ -22,7 +22,7 @@ pub struct MemEp {
 }
 
 impl Model for MemEp {
-    ghost use Rattle.m3_base.specs.Context.{MemoryRecord};
+    ghost use Rattle.m3_base.specs.Ideal.Context.{MemoryRecord};
 
     ghost Value = { MemoryRecord };
 
@@ -37,7 +37,7 @@ impl MemEp {
     /// The record of a memory form.
     pub fn new(fresh: &Fresh) -> MemEp
         requires { IsMemoryForm fresh.now }
-        ensures { Reaches result ≡ opened fresh.now }
+        ensures { Reaches result ≡ new_endpoint fresh.now }
     {
         match fresh {
             Fresh::Memory {

@@ -1,11 +1,11 @@
 //! Receive records: unread messages in a ring of 32 places, and fetched ones beside it.
 
 ghost use Rattle.std.specs.Prelude.{◌≡◌, ℕ, ◌<◌, ◌≤◌, ◌↔◌, ◌==◌, ◌||◌, not, IsTrue, IsSome, IsOk, IsErr, true, IfSome, IfOk, IfErr, OnOk, None, Some, length, slice_get, option_map, option_copied};
-ghost use Rattle.m3_base.specs.Receive.{with_unread, freed, marking};
-ghost use Rattle.m3_base.specs.Fits.{is_form};
-ghost use Rattle.m3_base.specs.Credit.{is_sent_by};
-ghost use Rattle.m3_endpoint.specs.Forms.{receive_form};
-ghost use Rattle.m3_endpoint.specs.Receive.{empty_record, closing_one, is_full_one, HasToken, token_of_fetch, after_fetch, unread_at, token_in, message_at, unmarked_at, marked_at, header_or_refusal, reply_header, replied, grant_in, size_in, closing_in, next_token_in, unread_count, fetched_count, token_at, queued_in};
+ghost use Rattle.m3_base.specs.Ideal.ReceiveRecord.{with_unread, without_fetched, with_mark_at};
+ghost use Rattle.m3_base.specs.Ideal.Acceptance.{is_form};
+ghost use Rattle.m3_base.specs.Ideal.Credits.{is_sent_by};
+ghost use Rattle.m3_endpoint.specs.RecordForms.{receive_form};
+ghost use Rattle.m3_endpoint.specs.ReceiveOps.{empty_record, closing_one, is_full_one, HasToken, token_of_fetch, after_fetch, unread_at, token_in, message_at, unmarked_at, marked_at, header_or_refusal, reply_header, with_reply_mark, grant_in, size_in, closing_in, next_token_in, unread_count, fetched_count, token_at, queued_in};
 
 mod readers;
 
@@ -13,6 +13,7 @@ use crate::fetched::{FetchedMessage, mark, remove};
 use circular_buffer::HeapCircularBuffer;
 use m3_base::command::Refusal;
 use m3_base::ids::GrantId;
+use m3_base::limits::MOST_SLOTS;
 use m3_base::message::{Header, Message};
 use m3_base::packet::Fresh;
 use std::alloc::{AllocError, Global};
@@ -33,7 +34,7 @@ pub struct ReceiveEp {
 
 impl Model for ReceiveEp {
     ghost use Rattle.std.specs.Prelude.{Option};
-    ghost use Rattle.m3_base.specs.Context.{ReceiveRecord};
+    ghost use Rattle.m3_base.specs.Ideal.Context.{ReceiveRecord};
 
     ghost Value = { Option ReceiveRecord };
 
@@ -49,8 +50,8 @@ impl ReceiveEp {
     pub fn new(alloc: Global) -> Result<ReceiveEp, AllocError>
         ensures { IfOk result (λ r. r ≡ None) }
     {
-        let unread = HeapCircularBuffer::with_capacity(alloc, 32)?;
-        let fetched = Vec::with_capacity(alloc, 32)?;
+        let unread = HeapCircularBuffer::with_capacity(alloc, MOST_SLOTS as usize)?;
+        let fetched = Vec::with_capacity(alloc, MOST_SLOTS as usize)?;
         Ok(ReceiveEp {
             used: false,
             grant: GrantId::new(1),
@@ -116,7 +117,7 @@ impl ReceiveEp {
     }
 
     /// The oldest unread message is fetched, under the next token. None exactly where none is unread.
-    #[tactic(auto, using(crate::proofs::Order::ordered_push))]
+    #[tactic(auto, using(crate::proofs::TokenOrder::ordered_push))]
     pub fn fetch(&mut self) -> Option<u32>
         requires { HasToken self.old }
         ensures token { result ≡ token_of_fetch self.old }
@@ -142,7 +143,7 @@ impl ReceiveEp {
     /// is being replied to; nothing has changed then.
     pub fn acknowledge(&mut self, token: u32) -> Result<Header, Refusal>
         ensures answer { result ≡ header_or_refusal (unmarked_at token self.old) }
-        ensures freed { IsOk result → self.new ≡ option_map (λ r. freed r token) self.old }
+        ensures freed { IsOk result → self.new ≡ option_map (λ r. without_fetched r token) self.old }
         ensures refused { IsErr result → self.new ≡ self.old }
     {
         let header = self.unmarked_header(token)?;
@@ -155,7 +156,7 @@ impl ReceiveEp {
     /// itself a reply. Nothing has changed then.
     pub fn begin_reply(&mut self, token: u32) -> Result<Header, Refusal>
         ensures answer { result ≡ reply_header (unmarked_at token self.old) }
-        ensures marked { IsOk result → self.new ≡ option_map (λ r. marking true r token) self.old }
+        ensures marked { IsOk result → self.new ≡ option_map (λ r. with_mark_at true r token) self.old }
         ensures refused { IsErr result → self.new ≡ self.old }
     {
         let header = self.reply_header(token)?;
@@ -166,7 +167,7 @@ impl ReceiveEp {
     /// The reply to the message of this token has landed, and the slot is free; or it was refused, and the message
     /// can be replied to again.
     pub fn end_reply(&mut self, token: u32, landed: bool)
-        ensures { self.new ≡ option_map (replied landed token) self.old }
+        ensures { self.new ≡ option_map (with_reply_mark landed token) self.old }
     {
         if landed {
             remove(&mut self.fetched, token);

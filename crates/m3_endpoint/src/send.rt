@@ -1,11 +1,11 @@
 //! Send records: the right to send to one receive endpoint, as often as there are credits.
 
 ghost use Rattle.std.specs.Prelude.{◌≡◌, ℕ, ◌<◌, ◌≤◌, ◌↔◌, IsTrue, false, true};
-ghost use Rattle.m3_base.specs.Context.{Sends, opened};
-ghost use Rattle.m3_base.specs.Issue.{less_one};
-ghost use Rattle.m3_base.specs.Land.{one_more};
-ghost use Rattle.m3_base.specs.Fits.{is_form};
-ghost use Rattle.m3_endpoint.specs.Forms.{IsSendForm, send_form};
+ghost use Rattle.m3_base.specs.Ideal.Context.{Sends, new_endpoint};
+ghost use Rattle.m3_base.specs.Ideal.Issue.{less_one};
+ghost use Rattle.m3_base.specs.Ideal.Landing.{one_more};
+ghost use Rattle.m3_base.specs.Ideal.Acceptance.{is_form};
+ghost use Rattle.m3_endpoint.specs.RecordForms.{IsSendForm, send_form};
 
 use m3_base::ids::{ActId, EpId, GrantId};
 use m3_base::packet::Fresh;
@@ -27,7 +27,7 @@ pub struct SendEp {
 }
 
 impl Model for SendEp {
-    ghost use Rattle.m3_base.specs.Context.{SendRecord};
+    ghost use Rattle.m3_base.specs.Ideal.Context.{SendRecord};
 
     ghost Value = { SendRecord };
 
@@ -42,7 +42,7 @@ impl SendEp {
     /// The record of a send form. It holds its limit.
     pub fn new(fresh: &Fresh) -> SendEp
         requires { IsSendForm fresh.now }
-        ensures { Sends result ≡ opened fresh.now }
+        ensures { Sends result ≡ new_endpoint fresh.now }
     {
         match fresh {
             Fresh::Send {

@@ -1,7 +1,7 @@
-pub mod Tree
-pub mod PlaceSet
-pub mod Nodes
-pub mod Links
-pub mod Linked
-pub mod Index
-pub mod Walk
+pub mod DueIndexView
+pub mod SiblingListView
+pub mod Siblings
+pub mod NodeView
+pub mod BitSet
+pub mod GrantTree
+pub mod SubtreeWalk

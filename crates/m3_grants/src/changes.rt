@@ -1,10 +1,11 @@
 //! Changes of single grants.
 
 ghost use Rattle.std.specs.Prelude.{◌≡◌, true, ◌-◌};
-ghost use Rattle.m3_grants.specs.Nodes.{under_parent, has_room_under, has_child_under, one_more, one_less, sent_node, done_node, root_node, closing_node, with_node};
+ghost use Rattle.m3_base.specs.Setup.GrantTable.{under_parent, has_room_under, one_more, with_node};
+ghost use Rattle.m3_grants.specs.NodeView.{has_child_under, one_less, sent_node, done_node, root_node, closing_node};
 
-use crate::node::{Node, Stage};
 use crate::nodes::Nodes;
+use m3_base::grants::node::Stage;
 use m3_base::ids::GrantId;
 
 /// The parent has one more child.
@@ -21,7 +22,7 @@ pub fn add_child(nodes: &mut Nodes, parent: Option<GrantId>)
 }
 
 /// The parent has one child less.
-pub fn drop_child(nodes: &mut Nodes, parent: Option<GrantId>)
+pub fn remove_child(nodes: &mut Nodes, parent: Option<GrantId>)
     requires { has_child_under nodes.old parent ≡ true }
     ensures { nodes.new ≡ under_parent nodes.old parent one_less }
 {

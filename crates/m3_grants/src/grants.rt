@@ -1,21 +1,22 @@
 //! The tree of grants.
 
-ghost use Rattle.std.specs.Prelude.{◌≡◌, true, ◌+◌, ◌*◌, ◌<◌, ◌≤◌, ◌&&◌, ◌||◌, nat_le, [], length, IfOk, OnOk, OnErr, None, Some, is_some};
+ghost use Rattle.std.specs.Prelude.{◌≡◌, true, ◌+◌, ◌≤◌, ◌&&◌, [], length, IfOk, OnOk, OnErr, None, Some, is_some};
 ghost use Rattle.std.specs.List.{list_any};
-ghost use Rattle.m3_base.specs.Grants.{make_refusal, revoke_refusal, revoked, holds_at};
-ghost use Rattle.m3_base.specs.Places.{least_closing};
-ghost use Rattle.m3_base.specs.Setup.{facts_of};
-ghost use Rattle.m3_base.specs.State.{grant_in, undone, parent_in};
-ghost use Rattle.m3_grants.specs.Tree.{cause_in, cause_of, with_made, Allows, after_line, fresh_in, line_in, holder_in, is_live_in, IsHeld, IsChildless, is_sent_in, is_undone_in, with_sent, with_done, root_of};
-ghost use Rattle.m3_grants.specs.Nodes.{Stands, StandsAbove, crowds};
+ghost use Rattle.m3_base.specs.Ideal.GrantRules.{make_refusal, revoke_refusal, after_revoke, holds_at, fresh_of};
+ghost use Rattle.m3_base.specs.Placement.Order.{least_closing};
+ghost use Rattle.m3_base.specs.Setup.Rules.{facts_of};
+ghost use Rattle.m3_base.specs.Ideal.State.{grant_in, undone};
+ghost use Rattle.m3_base.specs.Setup.GrantTable.{with_made, is_live_in, Stands};
+ghost use Rattle.m3_grants.specs.GrantTree.{cause_in, cause_of, after_line, line_in, holder_in, IsHeld, IsChildless, is_sent_in, is_undone_in, with_sent, with_done, root_of};
 
-use crate::changes::{add_child, drop_child, mark_done, mark_root, mark_sent};
-use crate::form;
-use crate::node::{Node, Stage};
+use crate::changes::{add_child, mark_done, mark_root, mark_sent, remove_child};
 use crate::nodes::Nodes;
-use crate::refusal::GrantRefusal;
-use crate::walk::close_under;
-use m3_base::ids::{ActId, EpId, GrantId};
+use crate::refusal::{GrantRefusal, refusal_of};
+use crate::walk::close_subtree;
+use m3_base::grants::node::{Node, Stage};
+use m3_base::grants::{above_node, grant_record, grant_refusal, held_at};
+use m3_base::ids::{ActId, EpId, GrantId, endpoint_index};
+use m3_base::limits::{ALL_ENDPOINTS, MOST_GRANTS};
 use m3_base::order::GrantLine;
 use m3_base::packet::Fresh;
 use m3_base::setup::Setup;
@@ -35,8 +36,9 @@ pub struct Grants {
 }
 
 impl Model for Grants {
-    ghost use Rattle.m3_grants.specs.Tree.{GrantTree};
-    ghost use Rattle.m3_grants.specs.Nodes.{grants_of, IsWhole};
+    ghost use Rattle.m3_grants.specs.GrantTree.{GrantTree};
+    ghost use Rattle.m3_base.specs.Setup.GrantTable.{grants_of};
+    ghost use Rattle.m3_grants.specs.NodeView.{IsWhole};
     ghost use Rattle.std.specs.Prelude.{vec_capacity};
 
     ghost Value = { GrantTree };
@@ -46,16 +48,6 @@ impl Model for Grants {
     ghost invariant = { λ s. IsWhole s.nodes s.held.items s.memory s.pending.items (vec_capacity s.pending) };
 }
 
-// Where an endpoint stands in the table.
-fn slot(act: ActId, ep: EpId) -> usize
-    ensures at { result ≡ 16 * act + ep }
-    ensures range { result < 1024 }
-    ensures act { act < 64 }
-    ensures ep { ep < 16 }
-{
-    16 * act.number() as usize + ep.number() as usize
-}
-
 impl Grants {
     // Of no grants.
     fn empty(alloc: Global, memory: u32) -> Result<Grants, AllocError>
@@ -63,12 +55,12 @@ impl Grants {
         ensures { IfOk result (λ t. t ≡ record { memory = memory; grants = [] }) }
     {
         let mut held = Vec::new(alloc);
-        held.resize(1024, None)?;
+        held.resize(ALL_ENDPOINTS, None)?;
         Ok(Grants {
             memory,
             nodes: Nodes::new(alloc)?,
             held,
-            pending: Vec::with_capacity(alloc, 4096)?,
+            pending: Vec::with_capacity(alloc, MOST_GRANTS)?,
         })
     }
 
@@ -84,16 +76,15 @@ impl Grants {
         Ok(grants)
     }
 
-    // A line of the setup.
+    // A line of the setup, which no rule refuses: the only failure is that no memory is left.
     fn read(&mut self, line: &SetupLine) -> Result<(), AllocError>
-        requires { Allows self.old line.now }
         ensures { OnOk result (self.new ≡ after_line line.now self.old) }
     {
         match line {
-            SetupLine::Grant(line) => {
-                self.add(*line)?;
-                Ok(())
-            }
+            SetupLine::Grant(line) => match self.make(*line) {
+                Ok(_) => Ok(()),
+                Err(_) => Err(AllocError),
+            },
             _ => Ok(()),
         }
     }
@@ -116,50 +107,20 @@ impl Grants {
         }
     }
 
-    // The grant that this one is under, where it isn't done.
-    fn above(&self, parent: Option<GrantId>) -> Option<Node>
-        ensures { StandsAbove self.now.grants parent (undone (parent_in self.now.grants parent)) result }
-    {
-        match parent {
-            Some(g) => self.open(g),
-            None => None,
-        }
-    }
-
-    // Whether 4,096 grants were made, or the receive grant above has 64 children that aren't done.
-    fn is_full(&self, line: &GrantLine, above: &Option<Node>) -> bool
-        ensures { result ≡ (nat_le 4096 (length self.now.grants) || crowds line.now above.now) }
-    {
-        4096 <= self.nodes.len() || form::is_crowded(line, above)
-    }
-
     // Why a grant of this line can't be made.
     fn refusal(&self, line: &GrantLine) -> Option<GrantRefusal>
         ensures { cause_in result ≡ make_refusal self.now.memory self.now.grants line.now }
     {
-        let above = self.above(line.parent());
-        if form::lacks_parent(line, &above) {
-            return Some(GrantRefusal::NoGrant);
-        }
-        if form::is_above_closing(&above) {
-            return Some(GrantRefusal::Closing);
-        }
-        if self.held(line.act(), line.ep()).is_some() {
-            return Some(GrantRefusal::SlotTaken);
-        }
-        if form::is_outside(self.memory, line, &above) {
-            return Some(GrantRefusal::OutsideParent);
-        }
-        if form::is_more(line, &above) {
-            return Some(GrantRefusal::MorePermission);
-        }
-        if self.is_full(line, &above) {
-            return Some(GrantRefusal::TooMany);
-        }
-        None
+        let no = grant_refusal(
+            self.memory,
+            self.nodes.as_slice(),
+            self.held.as_slice(),
+            line,
+        )?;
+        Some(refusal_of(no))
     }
 
-    // Makes a grant that isn't refused. After want of memory nothing has changed.
+    // Makes a grant that isn't refused. Where no memory is left, nothing has changed.
     fn add(&mut self, line: GrantLine) -> Result<GrantId, AllocError>
         requires allowed { make_refusal self.old.memory self.old.grants line ≡ None }
         ensures id { IfOk result (λ g. g ≡ length self.old.grants + 1) }
@@ -167,13 +128,14 @@ impl Grants {
         ensures kept { OnErr result (self.new ≡ self.old) }
     {
         let grant = GrantId::new(self.nodes.len() as u16 + 1);
-        let fresh = match form::form(grant, &line, self.above(line.parent())) {
+        let above = above_node(self.nodes.as_slice(), line.parent());
+        let fresh = match grant_record(grant, &line, above) {
             Some(fresh) => fresh,
             None => return Ok(grant),
         };
         self.nodes.push(line, fresh)?;
         add_child(&mut self.nodes, line.parent());
-        let at = slot(line.act(), line.ep());
+        let at = endpoint_index(line.act(), line.ep());
         self.held[at] = Some(grant);
         Ok(grant)
     }
@@ -206,7 +168,7 @@ impl Grants {
 
     /// The record that the grant stands for. None exactly where it doesn't exist or is done.
     pub fn fresh(&self, g: GrantId) -> Option<Fresh>
-        ensures { result ≡ fresh_in (undone (grant_in self.now.grants g)) }
+        ensures { result ≡ fresh_of (undone (grant_in self.now.grants g)) }
     {
         match self.open(g) {
             Some(node) => Some(node.fresh),
@@ -249,14 +211,13 @@ impl Grants {
         ensures held { IsHeld self.now.grants act ep result }
         ensures some { is_some result ≡ list_any (holds_at act ep) self.now.grants }
     {
-        let at = slot(act, ep);
-        self.held[at]
+        held_at(self.held.as_slice(), act, ep)
     }
 
     /// All live grants under this one, and this one, are closing, and this one is the root of the revoke. `NoGrant`
     /// exactly where it doesn't exist or is done, `Closing` exactly where it isn't live; then nothing has changed.
     pub fn revoke(&mut self, g: GrantId) -> Result<(), GrantRefusal>
-        ensures ok { OnOk result (self.new ≡ record self.old { grants = revoked self.old.grants g }) }
+        ensures ok { OnOk result (self.new ≡ record self.old { grants = after_revoke self.old.grants g }) }
         ensures kept { OnErr result (self.new ≡ self.old) }
         ensures refused { cause_of result ≡ revoke_refusal (grant_in self.old.grants g) }
     {
@@ -266,7 +227,7 @@ impl Grants {
                 if !matches!(node.stage, Stage::Live) {
                     return Err(GrantRefusal::Closing);
                 }
-                close_under(&mut self.nodes, &mut self.pending, g);
+                close_subtree(&mut self.nodes, &mut self.pending, g);
                 mark_root(&mut self.nodes, g);
                 Ok(())
             }
@@ -285,7 +246,9 @@ impl Grants {
     /// The grant's Close is sent. The condition is that `next_close` gives it.
     pub fn sent(&mut self, g: GrantId)
         requires { least_closing self.old.grants 1 self.old.grants ≡ Some g }
-        ensures { self.new ≡ record self.old { grants = with_sent self.old.grants g } }
+        ensures sent { self.new ≡ record self.old { grants = with_sent self.old.grants g } }
+        ensures awaits_closed { is_sent_in (grant_in self.new.grants g) ≡ true }
+        ensures undone { is_undone_in (grant_in self.new.grants g) ≡ true }
     {
         mark_sent(&mut self.nodes, g);
     }
@@ -309,8 +272,8 @@ impl Grants {
         ensures done { self.new ≡ record self.old { grants = with_done self.old.grants g } }
     {
         let node = self.get(g)?;
-        drop_child(&mut self.nodes, node.line.parent());
-        let at = slot(node.line.act(), node.line.ep());
+        remove_child(&mut self.nodes, node.line.parent());
+        let at = endpoint_index(node.line.act(), node.line.ep());
         self.held[at] = None;
         mark_done(&mut self.nodes, g);
         if node.is_root { Some(g) } else { None }

@@ -1,14 +1,10 @@
 //! The kernel's grants: who holds which, what was made under which, and which are to be closed next.
 #![tactic(auto)]
 
+mod bit_set;
 mod changes;
-mod form;
 pub mod grants;
-mod links;
-mod node;
 mod nodes;
-mod place_set;
 pub mod refusal;
-#[cfg(test)]
-mod tests;
+mod siblings;
 mod walk;

@@ -1,14 +1,16 @@
 //! The grants in the order of their numbers, with what finds those that are due or under another at once.
 
 ghost use Rattle.std.specs.Prelude.{◌≡◌, true, ◌-◌, ◌<◌, ◌≤◌, ◌++◌, ◌∷◌, [], length, slice_get, slice_set, IfOk, OnOk, OnErr};
-ghost use Rattle.m3_grants.specs.Nodes.{new_node, first_due, is_before};
-ghost use Rattle.m3_grants.specs.Links.{IsPrevious, IsLast};
-ghost use Rattle.m3_grants.specs.Index.{parents_of, HasParent};
-ghost use Rattle.m3_base.specs.State.{parent_of};
+ghost use Rattle.m3_base.specs.Setup.GrantTable.{new_node, is_before};
+ghost use Rattle.m3_grants.specs.NodeView.{first_due, is_due};
+ghost use Rattle.m3_grants.specs.Siblings.{IsPrevious, IsLast};
+ghost use Rattle.m3_grants.specs.DueIndexView.{parents_of, HasParent};
+ghost use Rattle.m3_base.specs.Ideal.State.{parent_of};
 
-use crate::links::Links;
-use crate::node::{Node, Stage};
-use crate::place_set::PlaceSet;
+use crate::bit_set::BitSet;
+use crate::siblings::Siblings;
+use m3_base::grants::node::{Node, Stage};
+use m3_base::grants::node_at;
 use m3_base::ids::GrantId;
 use m3_base::order::GrantLine;
 use m3_base::packet::Fresh;
@@ -20,31 +22,38 @@ use std::marker::Model;
 pub struct Nodes {
     nodes: Vec<Node>,
     // where those stand whose Close is due
-    due: PlaceSet,
-    links: Links,
+    due: BitSet,
+    siblings: Siblings,
 }
 
 impl Model for Nodes {
     ghost use Rattle.std.specs.Prelude.{List};
-    ghost use Rattle.m3_grants.specs.declared.node.Node.{Node as ANode};
-    ghost use Rattle.m3_grants.specs.Index.{IsIndexed};
+    ghost use Rattle.m3_base.specs.declared.grants.node.Node.{Node as ANode};
+    ghost use Rattle.m3_grants.specs.DueIndexView.{IsIndexed};
 
     ghost Value = { List ANode };
 
     ghost view = { λ s. s.nodes.items };
 
-    ghost invariant = { λ s. IsIndexed s.nodes.items s.due s.links };
+    ghost invariant = { λ s. IsIndexed s.nodes.items s.due s.siblings };
+}
+
+// Whether a grant's Close is due.
+fn is_due(node: &Node) -> bool
+    ensures { result ≡ is_due node.now }
+{
+    matches!(node.stage, Stage::Closing) && !node.close_sent && node.children == 0
 }
 
 impl Nodes {
     pub fn new(alloc: Global) -> Result<Nodes, AllocError>
         ensures { IfOk result (λ nodes. nodes ≡ []) }
     {
-        let due = PlaceSet::new(alloc)?;
+        let due = BitSet::new(alloc)?;
         Ok(Nodes {
             nodes: Vec::new(alloc),
             due,
-            links: Links::new(alloc),
+            siblings: Siblings::new(alloc),
         })
     }
 
@@ -59,15 +68,17 @@ impl Nodes {
         ensures found { result ≡ slice_get self.now (g - 1) }
         ensures some { 0 < g }
     {
-        let at = g.number() as usize - 1;
-        if at < self.nodes.len() {
-            Some(self.nodes[at])
-        } else {
-            None
-        }
+        node_at(self.nodes.as_slice(), g)
     }
 
-    /// The next grant, which is live. After want of memory nothing has changed.
+    /// All of them.
+    pub fn as_slice(&self) -> &[Node]
+        ensures { result.now ≡ self.now }
+    {
+        self.nodes.as_slice()
+    }
+
+    /// The next grant, which is live. Where no memory is left, nothing has changed.
     pub fn push(&mut self, line: GrantLine, fresh: Fresh) -> Result<(), AllocError>
         requires few { length self.old < 4096 }
         requires before { is_before (parent_of line) (length self.old) ≡ true }
@@ -75,7 +86,7 @@ impl Nodes {
         ensures kept { OnErr result (self.new ≡ self.old) }
     {
         self.nodes.reserve(1)?;
-        self.links.push(line.parent())?;
+        self.siblings.push(line.parent())?;
         self.nodes.push_reserved(Node {
             line,
             fresh,
@@ -93,7 +104,7 @@ impl Nodes {
         ensures { self.new ≡ slice_set self.old (g - 1) node }
     {
         let at = g.number() as usize - 1;
-        let due = node.is_due();
+        let due = is_due(&node);
         self.nodes[at] = node;
         if due {
             self.due.insert(at);
@@ -113,7 +124,7 @@ impl Nodes {
     pub fn previous(&self, g: GrantId) -> Option<GrantId>
         ensures { IsPrevious (parents_of self.now) g result }
     {
-        self.links.previous(g)
+        self.siblings.previous(g)
     }
 
     /// The last grant that was made under this one.
@@ -121,6 +132,6 @@ impl Nodes {
         ensures last { IsLast (parents_of self.now) g (length (parents_of self.now)) result }
         ensures few { length self.now ≤ 4096 }
     {
-        self.links.last_child(g)
+        self.siblings.last_child(g)
     }
 }

@@ -1,5 +1,10 @@
 //! Why the kernel refuses to make a grant, or to revoke one.
 
+ghost use Rattle.std.specs.Prelude.{◌≡◌, true, Some};
+ghost use Rattle.m3_base.specs.Journal.OutcomeForms.{allows_for_grant};
+ghost use Rattle.m3_grants.specs.GrantTree.{cause};
+
+use m3_base::event::No;
 use thiserror::Error;
 
 /// The causes are looked at in this order, and `NoMemory` last.
@@ -25,4 +30,19 @@ pub enum GrantRefusal {
     TooMany,
     #[error("no memory is left")]
     NoMemory,
+}
+
+/// The refusal of this cause, which is one of a grant or a revoke.
+pub fn refusal_of(no: No) -> GrantRefusal
+    requires { allows_for_grant no ≡ true }
+    ensures { cause result ≡ Some no }
+{
+    match no {
+        No::NoGrant => GrantRefusal::NoGrant,
+        No::Closing => GrantRefusal::Closing,
+        No::SlotTaken => GrantRefusal::SlotTaken,
+        No::OutsideParent => GrantRefusal::OutsideParent,
+        No::MorePermission => GrantRefusal::MorePermission,
+        _ => GrantRefusal::TooMany,
+    }
 }

@@ -1,22 +1,22 @@
 //! The walk over a subtree, which meets its grants and those that were made right under them.
 
 ghost use Rattle.std.specs.Prelude.{◌≡◌, true, ℕ, ◌+◌, ◌-◌, ◌<◌, ◌≤◌, ◌++◌, ◌∷◌, [], List, length, slice_get, option_to_list, vec_len, vec_capacity};
-ghost use Rattle.m3_base.specs.Grants.{marks_under};
-ghost use Rattle.m3_base.specs.State.{grant_in};
-ghost use Rattle.m3_grants.specs.declared.node.Node.{Node as ANode};
-ghost use Rattle.m3_grants.specs.Tree.{is_live_in};
-ghost use Rattle.m3_grants.specs.Nodes.{grants_of, AllRightful, with_node, closing_node, close_where, is_live_node};
-ghost use Rattle.m3_grants.specs.Index.{parents_of};
-ghost use Rattle.m3_grants.specs.Links.{IsLast};
-ghost use Rattle.m3_grants.specs.Walk.{Walks, live_count, left};
+ghost use Rattle.m3_base.specs.Ideal.GrantRules.{marks_under};
+ghost use Rattle.m3_base.specs.Ideal.State.{grant_in};
+ghost use Rattle.m3_base.specs.declared.grants.node.Node.{Node as ANode};
+ghost use Rattle.m3_base.specs.Setup.GrantTable.{is_live_in, grants_of, with_node};
+ghost use Rattle.m3_grants.specs.NodeView.{AllRightful, closing_node, close_where, is_live_node};
+ghost use Rattle.m3_grants.specs.DueIndexView.{parents_of};
+ghost use Rattle.m3_grants.specs.Siblings.{IsLast};
+ghost use Rattle.m3_grants.specs.SubtreeWalk.{Walks, live_count, left};
 
 use crate::changes::mark_closing;
-use crate::node::Stage;
 use crate::nodes::Nodes;
+use m3_base::grants::node::Stage;
 use m3_base::ids::GrantId;
 
 // The grant, if any, is visited later.
-fn wait(pending: &mut Vec<GrantId>, next: Option<GrantId>)
+fn push_pending(pending: &mut Vec<GrantId>, next: Option<GrantId>)
     requires { vec_len pending.old < vec_capacity pending.old }
     ensures items { pending.new.items ≡ pending.old.items ++ option_to_list next }
     ensures len { vec_len pending.new ≡ vec_len pending.old + length (option_to_list next) }
@@ -54,15 +54,15 @@ fn visit(nodes: &mut Nodes, pending: &mut Vec<GrantId>, g: GrantId)
     ensures capacity { vec_capacity pending.new ≡ vec_capacity pending.old }
 {
     let previous = nodes.previous(g);
-    wait(pending, previous);
+    push_pending(pending, previous);
     if is_live(nodes, g) {
         let last = close(nodes, g);
-        wait(pending, last);
+        push_pending(pending, last);
     }
 }
 
 /// All live grants of g's subtree are closing, where g is live. The list of those to visit needs room for all.
-pub fn close_under(nodes: &mut Nodes, pending: &mut Vec<GrantId>, g: GrantId)
+pub fn close_subtree(nodes: &mut Nodes, pending: &mut Vec<GrantId>, g: GrantId)
     requires rightful { AllRightful (grants_of nodes.old) }
     requires live { is_live_in (grant_in (grants_of nodes.old) g) ≡ true }
     requires none { pending.old.items ≡ [] }
@@ -72,7 +72,7 @@ pub fn close_under(nodes: &mut Nodes, pending: &mut Vec<GrantId>, g: GrantId)
     ensures room { vec_capacity pending.new ≡ vec_capacity pending.old }
 {
     let child = close(nodes, g);
-    wait(pending, child);
+    push_pending(pending, child);
     while let Some(next) = pending.pop() {
         visit(nodes, pending, next);
     }

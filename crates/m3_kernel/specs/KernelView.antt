@@ -1,5 +1,5 @@
 -- What the kernel is to a reader.
-use Rattle.m3_kernel.specs.States.{KernelAt, at_site, IsKept}
+use Rattle.m3_kernel.specs.KernelStateView.{KernelAt, at_site, IsKept}
 use Rattle.m3_kernel.specs.declared.kernel.Kernel.TheInside.{Inside}
 
 abbrev pub kernel_at : Inside → KernelAt

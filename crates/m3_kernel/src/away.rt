@@ -1,16 +1,16 @@
 //! An activity that is away from its tile.
 
 ghost use Rattle.std.specs.Prelude.{◌≡◌, ◌++◌, true, [], Some, IfOk};
-ghost use Rattle.m3_base.specs.Fits.{fits};
-ghost use Rattle.m3_base.specs.Arrive.{arrive};
-ghost use Rattle.m3_kernel.specs.Parts.{heard_of, Restore};
-ghost use Rattle.m3_kernel.specs.Parcels.{heard_in, parcel_of};
-ghost use Rattle.m3_kernel.specs.Kernel.{after_packet};
-ghost use Rattle.m3_kernel.specs.Came.{arrival_of, AtMostOne};
-ghost use Rattle.m3_kernel.specs.Settled.{AreNotBoth};
+ghost use Rattle.m3_base.specs.Ideal.Acceptance.{fits};
+ghost use Rattle.m3_base.specs.Ideal.Arrival.{arrive};
+ghost use Rattle.m3_model.specs.LocalStep.{heard_in_answer};
+ghost use Rattle.m3_model.specs.Parcel.{Restore};
+ghost use Rattle.m3_kernel.specs.ParcelView.{heard_in, parcel_of};
+ghost use Rattle.m3_model.specs.Kernel.Step.{after_packet};
+ghost use Rattle.m3_kernel.specs.ArrivalView.{arrival_of, AtMostOne};
+ghost use Rattle.m3_kernel.specs.PendingAnswer.{AreNotBoth};
 
 use crate::came::{Came, meet};
-use m3_base::ids::ActId;
 use m3_base::packet::Packet;
 use m3_core::context::Context;
 use m3_core::parcel::{Heard, Parcel};
@@ -27,9 +27,9 @@ pub struct Away {
 }
 
 impl Model for Away {
-    ghost use Rattle.m3_kernel.specs.Parts.{Away as AwayValue};
-    ghost use Rattle.m3_kernel.specs.Parcels.{heard_in};
-    ghost use Rattle.m3_kernel.specs.Settled.{IsSettled};
+    ghost use Rattle.m3_model.specs.Kernel.State.{SavedActivity as AwayValue};
+    ghost use Rattle.m3_kernel.specs.ParcelView.{heard_in};
+    ghost use Rattle.m3_kernel.specs.PendingAnswer.{IsSettled};
 
     ghost Value = { AwayValue };
 
@@ -40,7 +40,7 @@ impl Model for Away {
 
 /// What the program is to hear of a packet: an answer to its command.
 pub fn heard_of(alloc: Global, packet: &Packet) -> Result<Option<Heard>, AllocError>
-    ensures { IfOk result (λ h. heard_in h ≡ heard_of packet.now) }
+    ensures { IfOk result (λ h. heard_in h ≡ heard_in_answer packet.now) }
 {
     match packet {
         Packet::Answer { id, answer } => {
@@ -86,7 +86,7 @@ impl Away {
     /// A packet that fits arrives at its context, and it hears what its program is to hear of it.
     pub fn meet(&mut self, heard: Option<Heard>, packet: Packet) -> Came
         requires fits { fits self.old.context packet ≡ true }
-        requires heard { heard_in heard ≡ heard_of packet }
+        requires heard { heard_in heard ≡ heard_in_answer packet }
         ensures arrives { arrive self.old.context packet ≡ Some (arrival_of result self.new.context) }
         ensures one { AtMostOne result.answer result.freed }
         ensures away { self.new ≡ after_packet packet self.new.context self.old }
@@ -98,12 +98,12 @@ impl Away {
     }
 
     /// It goes back to its tile, with what it heard.
-    pub fn restored(self, act: ActId) -> Parcel
-        ensures { parcel_of result ≡ Restore self.context self.heard }
+    pub fn restored(self) -> Parcel
+        ensures { parcel_of result ≡ Restore self.context.act self.context self.heard }
     {
         let Away { context, heard, .. } = self;
         Parcel::Restore {
-            act,
+            act: context.act(),
             context,
             heard,
         }

@@ -1,11 +1,11 @@
 //! What comes of a packet at a context.
 
 ghost use Rattle.std.specs.Prelude.{◌≡◌, true, None, Some, IsSome};
-ghost use Rattle.m3_base.specs.Fits.{fits};
-ghost use Rattle.m3_base.specs.Arrive.{arrive};
-ghost use Rattle.m3_base.specs.Places.{target};
-ghost use Rattle.m3_core.specs.Arriving.{answer_by, freed_by};
-ghost use Rattle.m3_kernel.specs.Came.{credit_of, answers_to, NamesCredit, said_credit, said_came, AtMostOne, arrival_of};
+ghost use Rattle.m3_base.specs.Ideal.Acceptance.{fits};
+ghost use Rattle.m3_base.specs.Ideal.Arrival.{arrive};
+ghost use Rattle.m3_base.specs.Placement.Routing.{target};
+ghost use Rattle.m3_core.specs.ArrivalView.{answer_by, freed_by};
+ghost use Rattle.m3_kernel.specs.ArrivalView.{credit_of, answers_to, NamesCredit, said_credit, said_came, AtMostOne, arrival_of};
 
 use m3_base::event::Said;
 use m3_base::ids::{FlightId, GrantId};

@@ -3,15 +3,14 @@
 
 ghost use Rattle.std.specs.Prelude.{◌≡◌, None, Some, true, false, IfOk, IfErr, OnOk, OnErr, option_copied, option_map, length, slice_get, []};
 ghost use Rattle.m3_base.specs.declared.order.Order.{Order};
-ghost use Rattle.m3_base.specs.Setup.{facts_of};
-ghost use Rattle.m3_kernel.specs.Parcels.{parcel_of};
-ghost use Rattle.m3_kernel.specs.Sites.{site_of};
-ghost use Rattle.m3_kernel.specs.Kernel.{seat_of, kernel_take, kernel_tend, kernel_order};
-ghost use Rattle.m3_kernel.specs.Seats.{seats_of, place_of};
-ghost use Rattle.m3_kernel.specs.Doing.{Does};
-ghost use Rattle.m3_kernel.specs.Readers.{new_kernel, with_new_seat, HasPlaceFor, hold_in, context_of_seat, tend_aim, is_seated, SeatIs};
+ghost use Rattle.m3_base.specs.Setup.Rules.{facts_of};
+ghost use Rattle.m3_kernel.specs.ParcelView.{parcel_of};
+ghost use Rattle.m3_model.specs.Config.FromSetup.{site_of};
+ghost use Rattle.m3_model.specs.Kernel.Step.{entry_of, kernel_take, kernel_tend, kernel_order};
+ghost use Rattle.m3_kernel.specs.ActivityView.{seats_of, place_of};
+ghost use Rattle.m3_kernel.specs.StepContracts.{Does};
+ghost use Rattle.m3_kernel.specs.KernelQueries.{new_kernel, with_new_seat, HasPlaceFor, hold_in, context_of_seat, is_seated, SeatIs};
 
-use crate::came::answers_to;
 use crate::done::Done;
 use crate::seat::{Place, Seat};
 use crate::site::Site;
@@ -32,7 +31,7 @@ pub struct Kernel {
 }
 
 impl Model for Kernel {
-    ghost use Rattle.m3_kernel.specs.States.{KernelAt};
+    ghost use Rattle.m3_kernel.specs.KernelStateView.{KernelAt};
 
     ghost Value = { KernelAt };
 
@@ -61,7 +60,7 @@ impl Kernel {
         act: ActId,
         context: Option<Context>,
     ) -> Result<(), AllocError>
-        requires fresh { seat_of act self.old.kernel ≡ None }
+        requires fresh { entry_of act self.old.kernel ≡ None }
         requires place { HasPlaceFor self.old act context }
         ensures ok { OnOk result (self.new ≡ with_new_seat act context self.old) }
         ensures err { OnErr result (self.new ≡ self.old) }
@@ -93,7 +92,7 @@ impl Kernel {
 
     /// The seat of an activity. None exactly where it has none.
     pub fn seat_of(&self, act: ActId) -> Option<&Seat>
-        ensures { SeatIs (seat_of act self.now.kernel) (option_copied result) }
+        ensures { SeatIs (entry_of act self.now.kernel) (option_copied result) }
     {
         match self.state.place(act.number()) {
             None => None,
@@ -103,8 +102,8 @@ impl Kernel {
 
     /// How an activity is counted. The condition is that it has a seat.
     pub fn place(&self, act: ActId) -> Place
-        requires { is_seated (seat_of act self.now.kernel) ≡ true }
-        ensures { Some result ≡ option_map (λ x. place_of x.seating) (seat_of act self.now.kernel) }
+        requires { is_seated (entry_of act self.now.kernel) ≡ true }
+        ensures { Some result ≡ option_map (λ x. place_of x.seating) (entry_of act self.now.kernel) }
     {
         match self.seat_of(act) {
             None => unreachable!(),
@@ -114,7 +113,7 @@ impl Kernel {
 
     /// How many packets are held for an activity.
     pub fn hold_len(&self, act: ActId) -> usize
-        ensures { result ≡ length (hold_in (seat_of act self.now.kernel)) }
+        ensures { result ≡ length (hold_in (entry_of act self.now.kernel)) }
     {
         match self.seat_of(act) {
             None => 0,
@@ -124,7 +123,7 @@ impl Kernel {
 
     /// The packet at this place of an activity's hold list, oldest first.
     pub fn held(&self, act: ActId, at: usize) -> Option<&Packet>
-        ensures { option_copied result ≡ slice_get (hold_in (seat_of act self.now.kernel)) at }
+        ensures { option_copied result ≡ slice_get (hold_in (entry_of act self.now.kernel)) at }
     {
         match self.seat_of(act) {
             None => None,
@@ -134,24 +133,11 @@ impl Kernel {
 
     /// The context of an activity that is Resting or Coming. None where the kernel has none.
     pub fn context(&self, act: ActId) -> Option<&Context>
-        ensures { option_copied result ≡ context_of_seat (seat_of act self.now.kernel) }
+        ensures { option_copied result ≡ context_of_seat (entry_of act self.now.kernel) }
     {
         match self.seat_of(act) {
             None => None,
             Some(seat) => seat.context(),
-        }
-    }
-
-    /// The tile that the answer to the front of an activity's hold list goes to; tile 0 where none arises.
-    pub fn tend_aim(&self, act: ActId) -> TileId
-        ensures { result ≡ tend_aim self.now.site (seat_of act self.now.kernel) }
-    {
-        match self.held(act, 0) {
-            None => TileId::new(0),
-            Some(packet) => match answers_to(packet) {
-                None => TileId::new(0),
-                Some(to) => self.state.site.tile_of(to),
-            },
         }
     }
 

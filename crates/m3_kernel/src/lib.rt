@@ -9,5 +9,3 @@ pub mod kernel;
 pub mod seat;
 pub mod site;
 mod state;
-#[cfg(test)]
-mod tests;

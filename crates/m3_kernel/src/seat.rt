@@ -1,11 +1,12 @@
 //! The seat of an activity: where it is, and the packets that are held for it.
 
 ghost use Rattle.std.specs.Prelude.{◌≡◌, ◌&&◌, ◌==◌, ◌∷◌, ◌++◌, [], length, option_copied, OnOk};
-ghost use Rattle.m3_kernel.specs.Parts.{Seat as SeatValue, Is_placed, Is_leaving, Is_resting, Is_coming, Restore};
-ghost use Rattle.m3_kernel.specs.Parcels.{parcel_of};
-ghost use Rattle.m3_kernel.specs.Kernel.{is_coming_seat};
-ghost use Rattle.m3_kernel.specs.Came.{AtMostOne};
-ghost use Rattle.m3_kernel.specs.Seats.{seat_value, new_seat, place_of, away_in, context_in, coming, fitting, HasRoom, Hears, Met, IsComing, Restores};
+ghost use Rattle.m3_model.specs.Kernel.State.{ActivityEntry as SeatValue, Is_placed, Is_leaving, Is_resting, Is_coming};
+ghost use Rattle.m3_model.specs.Parcel.{Restore};
+ghost use Rattle.m3_kernel.specs.ParcelView.{parcel_of};
+ghost use Rattle.m3_model.specs.Kernel.Step.{is_coming_entry};
+ghost use Rattle.m3_kernel.specs.ArrivalView.{AtMostOne};
+ghost use Rattle.m3_kernel.specs.ActivityView.{seat_value, new_seat, place_of, away_in, context_in, coming_from, deliverable_front, HasRoom, RemembersAnswer, Delivered, IsComing, Restores};
 
 use crate::away::Away;
 use crate::came::Came;
@@ -112,7 +113,7 @@ impl Seat {
 
     /// Whether its activity is Coming, and nothing is held.
     pub fn is_due(&self) -> bool
-        ensures { result ≡ (is_coming_seat (seat_value self.now).seating && (length (seat_value self.now).hold == 0)) }
+        ensures { result ≡ (is_coming_entry (seat_value self.now).seating && (length (seat_value self.now).hold == 0)) }
     {
         match &self.seating {
             Seating::Coming(_) => self.hold.is_empty(),
@@ -122,7 +123,7 @@ impl Seat {
 
     /// The oldest packet that is held, where its activity is away and the packet fits its context.
     pub fn fitting(&self) -> Option<&Packet>
-        ensures { option_copied result ≡ fitting (seat_value self.now) }
+        ensures { option_copied result ≡ deliverable_front (seat_value self.now) }
     {
         let away = self.away()?;
         let packet = self.hold.front()?;
@@ -149,7 +150,7 @@ impl Seat {
 
     /// Its activity, which was Resting, is Coming.
     pub fn come(&mut self)
-        ensures { seat_value self.new ≡ record (seat_value self.old) { seating = coming (seat_value self.old).seating } }
+        ensures { seat_value self.new ≡ record (seat_value self.old) { seating = coming_from (seat_value self.old).seating } }
     {
         match mem::replace(&mut self.seating, Seating::Placed) {
             Seating::Resting(away) => self.seating = Seating::Coming(away),
@@ -164,7 +165,7 @@ impl Seat {
         ensures parcel { Restores (seat_value self.old).seating (parcel_of result) }
     {
         match mem::replace(&mut self.seating, Seating::Placed) {
-            Seating::Coming(away) => away.restored(self.act),
+            Seating::Coming(away) => away.restored(),
             _ => unreachable!(),
         }
     }
@@ -188,8 +189,8 @@ impl Seat {
     /// The oldest packet that is held, which fits, arrives at the context, and the activity hears what is to be heard of
     /// it. There is room for one more packet then.
     pub fn meet(&mut self, heard: Option<Heard>) -> Came
-        requires { Hears (seat_value self.old) heard }
-        ensures met { Met (seat_value self.old) (seat_value self.new) result }
+        requires { RemembersAnswer (seat_value self.old) heard }
+        ensures met { Delivered (seat_value self.old) (seat_value self.new) result }
         ensures one { AtMostOne result.answer result.freed }
         ensures room { HasRoom self.new }
     {

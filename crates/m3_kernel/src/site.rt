@@ -2,11 +2,11 @@
 
 ghost use Rattle.std.specs.Prelude.{◌≡◌, IfOk, OnOk, map, replicate, None, []};
 ghost use Rattle.m3_base.specs.declared.setup_line.SetupLine.{SetupLine};
-ghost use Rattle.m3_base.specs.Places.{target};
-ghost use Rattle.m3_kernel.specs.Parts.{home_of, tile_of, tile_for};
-ghost use Rattle.m3_kernel.specs.Naming.{is_home, are_homes, acts_in_form, is_named};
-ghost use Rattle.m3_kernel.specs.Sites.{with_home, site_of};
-ghost use Rattle.m3_kernel.specs.Homes.{home_tile, site_before, value_of};
+ghost use Rattle.m3_base.specs.Placement.Routing.{target};
+ghost use Rattle.m3_model.specs.Config.Site.{home_of, tile_of, tile_for};
+ghost use Rattle.m3_model.specs.Config.KnownActivities.{is_home, are_homes, acts_in_form, is_named};
+ghost use Rattle.m3_model.specs.Config.FromSetup.{with_home, site_of};
+ghost use Rattle.m3_kernel.specs.HomeTableView.{home_tile, site_before, value_of};
 
 use m3_base::ids::{ActId, TileId};
 use m3_base::packet::{Fresh, Packet};
@@ -50,8 +50,8 @@ impl Home {
 
 impl Model for Site {
     ghost use Rattle.std.specs.Prelude.{map};
-    ghost use Rattle.m3_kernel.specs.Parts.{Site as SiteValue};
-    ghost use Rattle.m3_kernel.specs.Homes.{value_of, AreTiles};
+    ghost use Rattle.m3_model.specs.Config.Site.{Site as SiteValue};
+    ghost use Rattle.m3_kernel.specs.HomeTableView.{value_of, AreTiles};
 
     ghost Value = { SiteValue };
 

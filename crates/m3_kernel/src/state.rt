@@ -6,11 +6,11 @@ mod take;
 mod tend;
 
 ghost use Rattle.std.specs.Prelude.{◌≡◌, ◌<◌, None, length, slice_index_or, OnOk};
-ghost use Rattle.m3_kernel.specs.Kernel.{then_restore};
-ghost use Rattle.m3_kernel.specs.Parcels.{out_of};
-ghost use Rattle.m3_kernel.specs.Berths.{berth_at};
-ghost use Rattle.m3_kernel.specs.States.{kernel_in, IsKept, CanRoute};
-ghost use Rattle.m3_kernel.specs.Doing.{Does, DueAt, PlaceIs, Routes};
+ghost use Rattle.m3_model.specs.Kernel.Step.{then_restore};
+ghost use Rattle.m3_kernel.specs.ParcelView.{out_of};
+ghost use Rattle.m3_kernel.specs.LookupTables.{berth_at};
+ghost use Rattle.m3_kernel.specs.KernelStateView.{kernel_in, IsKept, CanRoute};
+ghost use Rattle.m3_kernel.specs.StepContracts.{Does, DueAt, PlaceIs, Routes};
 
 use crate::berth::Berth;
 use crate::done::{Done, restores, says};
@@ -50,7 +50,7 @@ impl State {
     }
 
     /// The place of the seat of the activity of this number.
-    #[tactic(auto, using(crate::proofs::Places::place_by))]
+    #[tactic(auto, using(crate::proofs::FindEntry::place_by))]
     pub fn place(&self, act: u8) -> Option<usize>
         requires { IsKept self.now }
         ensures { PlaceIs (kernel_in self.now) act result }

@@ -1,2 +1,2 @@
-pub mod Links
-pub mod Wires
+pub mod LinkOps
+pub mod LinksView

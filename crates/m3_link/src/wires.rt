@@ -1,8 +1,8 @@
 //! The links: for each ordered pair of tiles the parcels on their way, first in, first out.
 
-ghost use Rattle.std.specs.Prelude.{◌≡◌, ℕ, ◌+◌, ◌*◌, ◌<◌, ◌≤◌, min, length, replicate, [], OnOk, IfOk, IsSome, option_copied};
-ghost use Rattle.m3_link.specs.Links.{place, list_at, pushed, popped, first, put_back, parcel_at, is_nil, spare_at, filled, freed, data_in, data_on};
-ghost use Rattle.m3_link.specs.Wires.{lists_in};
+ghost use Rattle.std.specs.Prelude.{◌≡◌, ℕ, ◌+◌, ◌*◌, ◌<◌, ◌≤◌, min, length, replicate, [], OnOk, IfOk, IsSome, option_copied, map, false, nat_le};
+ghost use Rattle.m3_link.specs.LinkOps.{place, list_at, with_pushed, with_popped, first, put_back, parcel_at, is_nil, spare_at, with_one_less, with_freed, HasRoom, IsRoomier, data_in, data_on};
+ghost use Rattle.m3_link.specs.LinksView.{lists_in, spare_in, marks_noted};
 
 use m3_base::ids::TileId;
 use m3_core::parcel::Parcel;
@@ -16,24 +16,27 @@ use std::marker::Model;
 pub struct Wires {
     /// The link from one tile to another at 16 * from + to.
     links: Vec<VecDeque<Parcel>>,
+    /// For each tile whether it is known that each link from it has two spare places.
+    roomy: Vec<bool>,
 }
 
 impl Model for Wires {
-    ghost use Rattle.m3_link.specs.Wires.{Wires as WiresValue, wires_of};
+    ghost use Rattle.m3_link.specs.LinksView.{Wires as WiresValue, wires_of};
 
     ghost Value = { WiresValue };
 
     ghost view = { λ w. wires_of w.links.items };
 
-    ghost use Rattle.std.specs.Prelude.{◌≡◌, length};
+    ghost use Rattle.m3_link.specs.LinksView.{IsWhole};
 
-    ghost invariant = { λ w. length w.links.items ≡ 256 };
+    ghost invariant = { λ w. IsWhole w.links.items w.roomy.items };
 }
 
 /// The place of a link among all.
 fn place(from: TileId, to: TileId) -> usize
     ensures value { result ≡ place from to }
     ensures range { result < 256 }
+    ensures low { to < 16 }
 {
     usize::from(from.number()) * 16 + usize::from(to.number())
 }
@@ -47,6 +50,47 @@ fn no_parcels(alloc: Global) -> Result<Vec<VecDeque<Parcel>>, AllocError>
         links.push(VecDeque::new(alloc))?;
     }
     Ok(links)
+}
+
+fn no_room(alloc: Global) -> Result<Vec<bool>, AllocError>
+    ensures { IfOk result (λ v. v.items ≡ replicate 16 false) }
+{
+    let mut roomy = Vec::with_capacity(alloc, 16)?;
+    for _ in 0..16u8 {
+        roomy.push(false)?;
+    }
+    Ok(roomy)
+}
+
+/// Whether the link has two spare places.
+fn is_roomy(link: &VecDeque<Parcel>) -> bool
+    ensures { result ≡ nat_le 2 (spare_in link.now) }
+{
+    2 <= link.capacity().saturating_sub(link.len())
+}
+
+/// The mark of a tile goes where one link from it may have fewer than two spare places.
+fn note_room(roomy: &mut Vec<bool>, from: TileId, still: bool)
+    requires { length roomy.old.items ≡ 16 }
+    ensures { roomy.new.items ≡ marks_noted still from roomy.old.items }
+{
+    if !still {
+        roomy[usize::from(from.number())] = false;
+    }
+}
+
+/// Makes room for two more parcels on each link from this tile.
+fn reserve_row(links: &mut Vec<VecDeque<Parcel>>, from: TileId) -> Result<(), AllocError>
+    requires { length links.old.items ≡ 256 }
+    ensures count { length links.new.items ≡ 256 }
+    ensures lists { lists_in links.new.items ≡ lists_in links.old.items }
+    ensures room { OnOk result (HasRoom (map spare_in links.new.items) 2 from) }
+    ensures more { IsRoomier (map spare_in links.old.items) (map spare_in links.new.items) }
+{
+    for to in 0..16u8 {
+        links[place(from, TileId::new(to))].reserve(2)?;
+    }
+    Ok(())
 }
 
 /// The count with the data packets of one more link.
@@ -79,34 +123,44 @@ impl Wires {
         ensures { IfOk result (λ w. w.lists ≡ replicate 256 []) }
     {
         let links = no_parcels(alloc)?;
-        Ok(Wires { links })
+        let roomy = no_room(alloc)?;
+        Ok(Wires { links, roomy })
     }
 
-    /// Makes room for two more parcels on this link, as many as one event can push on it.
-    pub fn reserve(&mut self, from: TileId, to: TileId) -> Result<(), AllocError>
+    /// Makes room for two more parcels on each link from this tile, as many as one event sends.
+    pub fn reserve_from(&mut self, from: TileId) -> Result<(), AllocError>
         ensures lists { self.new.lists ≡ self.old.lists }
-        ensures room { OnOk result (2 ≤ spare_at self.new.spare (place from to)) }
-        ensures kept { (k : ℕ) → spare_at self.old.spare k ≤ spare_at self.new.spare k }
+        ensures room { OnOk result (HasRoom self.new.spare 2 from) }
+        ensures more { IsRoomier self.old.spare self.new.spare }
     {
-        let at = place(from, to);
-        self.links[at].reserve(2)
+        let at = usize::from(from.number());
+        if !self.roomy[at] {
+            reserve_row(&mut self.links, from)?;
+            self.roomy[at] = true;
+        }
+        Ok(())
     }
 
     /// The parcel joins the back of this link, which has a spare place. It takes no memory.
     pub fn push(&mut self, from: TileId, to: TileId, parcel: Parcel)
         requires room { 0 < spare_at self.old.spare (place from to) }
-        ensures lists { self.new.lists ≡ pushed self.old.lists (place from to) parcel }
-        ensures spare { self.new.spare ≡ filled self.old.spare (place from to) }
+        ensures lists { self.new.lists ≡ with_pushed self.old.lists (place from to) parcel }
+        ensures spare { self.new.spare ≡ with_one_less self.old.spare (place from to) }
+        ensures room { (n t : ℕ) → HasRoom self.old.spare (n + 1) t → HasRoom self.new.spare n t }
     {
         let at = place(from, to);
-        self.links[at].push_back_reserved(parcel);
+        let link = &mut self.links[at];
+        link.push_back_reserved(parcel);
+        let still = is_roomy(link);
+        note_room(&mut self.roomy, from, still);
     }
 
     /// The front of this link leaves it, and its place is spare. None exactly where the link is empty.
     pub fn take(&mut self, from: TileId, to: TileId) -> Option<Parcel>
         ensures answer { result ≡ first (list_at self.old.lists (place from to)) }
-        ensures lists { self.new.lists ≡ popped self.old.lists (place from to) }
-        ensures spare { self.new.spare ≡ freed self.old.spare (place from to) result }
+        ensures lists { self.new.lists ≡ with_popped self.old.lists (place from to) }
+        ensures spare { self.new.spare ≡ with_freed self.old.spare (place from to) result }
+        ensures more { IsRoomier self.old.spare self.new.spare }
         ensures left { IsSome result → 0 < spare_at self.new.spare (place from to) }
     {
         let at = place(from, to);
@@ -117,10 +171,11 @@ impl Wires {
     pub fn put_back(&mut self, from: TileId, to: TileId, parcel: Parcel)
         requires room { 0 < spare_at self.old.spare (place from to) }
         ensures lists { self.new.lists ≡ put_back self.old.lists (place from to) parcel }
-        ensures spare { self.new.spare ≡ filled self.old.spare (place from to) }
+        ensures spare { self.new.spare ≡ with_one_less self.old.spare (place from to) }
     {
         let at = place(from, to);
         self.links[at].push_front_reserved(parcel);
+        note_room(&mut self.roomy, from, false);
     }
 
     /// How many parcels are on this link.

@@ -1,8 +1,8 @@
 -- Which packets the memory serves.
 use Rattle.std.specs.Prelude.{ℕ, Bool, false, List, length}
 use Rattle.m3_base.specs.declared.packet.Packet.{Packet}
-use Rattle.m3_kernel.specs.Parts.{Site}
-use Rattle.m3_machine.specs.Memory.{may_serve}
+use Rattle.m3_model.specs.Config.Site.{Site}
+use Rattle.m3_model.specs.Memory.Step.{may_serve}
 
 abbrev pub may_serve_packet : Site → List ℕ → Packet → Bool
 may_serve_packet h memory (Packet.Read id g place buffer) = may_serve h memory id place (length buffer)

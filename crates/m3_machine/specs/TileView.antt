@@ -1,12 +1,11 @@
 -- What a tile is to a reader, and when it may issue a command.
 use Rattle.std.specs.Prelude.{ℕ, ◌<◌, Bool, false, ◌==◌, [], ◌∷◌, ◌++◌, map, Option, Some, None}
 use Rattle.m3_base.specs.declared.command.Command.{Command}
-use Rattle.m3_base.specs.Context.{Context}
-use Rattle.m3_core.specs.Conditions.{HasTokenFor}
+use Rattle.m3_base.specs.Ideal.Context.{Context}
+use Rattle.m3_core.specs.Preconditions.{HasTokenFor}
 use Rattle.m3_machine.specs.declared.tile.TilePart.TheInside.{Inside}
-use Rattle.m3_kernel.specs.Parts.{Site, Tile}
-use Rattle.m3_machine.specs.Aims.{aim_of}
-use Rattle.m3_machine.specs.Machine.{new_stay}
+use Rattle.m3_model.specs.Tile.State.{Tile}
+use Rattle.m3_model.specs.Machine.{new_stay}
 
 -- no program has made a move yet
 abbrev pub tile_value : Inside → Tile
@@ -16,10 +15,6 @@ tile_value t = record { tile = t.tile; current = t.current; stays = map new_stay
 abbrev pub CanIssue : Option Context → Command → Type 0
 CanIssue None c = Unit {0}
 CanIssue (Some x) c = (x.next < 4294967295) × HasTokenFor x c
-
-abbrev pub aim_at : Site → Option Context → Command → ℕ
-aim_at h None c = 0
-aim_at h (Some x) c = aim_of h x c
 
 -- this activity is the current one
 abbrev pub runs : ℕ → Option Context → Bool

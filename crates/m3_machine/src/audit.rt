@@ -1,13 +1,13 @@
 //! The lines that close a journal, on credits, on tiles and on flights.
 
 ghost use Rattle.std.specs.Prelude.{◌≡◌, ◌≤◌, ◌+◌, ◌++◌, length, min, IfOk, OnOk, option_to_list};
-ghost use Rattle.m3_base.specs.State.{grant_in};
-ghost use Rattle.m3_kernel.specs.Parcels.{parcels_of};
-ghost use Rattle.m3_kernel.specs.Seats.{seat_value, seats_of};
-ghost use Rattle.m3_link.specs.Links.{data_on};
-ghost use Rattle.m3_machine.specs.At.{each, held_by};
-ghost use Rattle.m3_machine.specs.Closing.{IsSized, IsTally, live_line, live_lines, contexts_of, packets_of};
-ghost use Rattle.m3_machine.specs.Next.{tile_lines};
+ghost use Rattle.m3_base.specs.Ideal.State.{grant_in};
+ghost use Rattle.m3_kernel.specs.ParcelView.{parcels_of};
+ghost use Rattle.m3_kernel.specs.ActivityView.{seat_value, seats_of};
+ghost use Rattle.m3_link.specs.LinkOps.{data_on};
+ghost use Rattle.m3_model.specs.Abstraction.{flat_map, held_by};
+ghost use Rattle.m3_machine.specs.AuditView.{IsSized, IsTally, live_line, live_lines, contexts_of, packets_of};
+ghost use Rattle.m3_trace.specs.DriverOfMachine.{tile_lines};
 
 use crate::roster::roster;
 use crate::tally::Tally;
@@ -88,7 +88,7 @@ fn held(seat: &Seat) -> usize
 
 /// How many packets are in hold lists and on links, up to the largest number.
 pub fn flights(seats: &[Seat], links: &Wires) -> u32
-    ensures { result ≡ min 4294967295 (length (each held_by (seats_of seats.now)) + data_on links.now.lists) }
+    ensures { result ≡ min 4294967295 (length (flat_map held_by (seats_of seats.now)) + data_on links.now.lists) }
 {
     let mut count = links.flights() as usize;
     for seat in seats {

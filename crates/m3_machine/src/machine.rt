@@ -1,54 +1,47 @@
-//! The machine: its step and its journal.
+//! The machine: its setup, its engine, and the journal of what it did.
 
-ghost use Rattle.std.specs.Prelude.{◌≡◌, ◌≢◌, ◌↔◌, ◌<◌, ◌≤◌, [], true, length, OnOk, OnErr, IfOk, IfErr, Err};
+ghost use Rattle.std.specs.Prelude.{◌≡◌, ◌≢◌, ◌↔◌, ℕ, ◌<◌, ◌≤◌, ◌++◌, ◌∷◌, [], length, vec_len, vec_capacity, OnOk, OnErr, IfOk, IfErr, Err};
 ghost use Rattle.m3_base.specs.declared.event.Event.{Event};
-ghost use Rattle.m3_base.specs.declared.order.Order.{Order};
-ghost use Rattle.m3_base.specs.Setup.{IsValid};
+ghost use Rattle.m3_base.specs.Journal.Audit.{audit_lines};
+ghost use Rattle.m3_base.specs.Placement.Driver.{next_event};
+ghost use Rattle.m3_base.specs.Journal.Entry.{IsRun, state_after_entries};
+ghost use Rattle.m3_base.specs.Ideal.Opening.{opening};
+ghost use Rattle.m3_base.specs.Placement.Opening.{opening_placement};
+ghost use Rattle.m3_base.specs.Journal.Replies.{printed_replies, ideal_replies, steps_in};
+ghost use Rattle.m3_base.specs.Setup.Rules.{IsValid};
+ghost use Rattle.m3_laws.specs.JournalLaws.{AfterEach, KeepsLaws};
+ghost use Rattle.m3_model.specs.Events.{IsServed, IsUnserved};
+ghost use Rattle.m3_trace.specs.Invariant.{PlacementRun};
+ghost use Rattle.m3_trace.specs.Opening.{entry};
+ghost use Rattle.m3_machine.specs.MachineView.{initial_machine, ideal, placement, IsStep, NamesActs};
 ghost use Rattle.m3_machine.specs.declared.machine.StepRefusal.{StepRefusal};
-ghost use Rattle.m3_kernel.specs.Naming.{is_home};
-ghost use Rattle.m3_machine.specs.Next.{next_event};
-ghost use Rattle.m3_machine.specs.Closing.{IsCounted, lines, ideal_lines};
-ghost use Rattle.m3_machine.specs.Machine.{link_at};
-ghost use Rattle.m3_machine.specs.Whole.{site, opened_whole, HasParcel, IsOfSetup, IsServed, IsUnserved, Steps};
 
 use crate::audit::{credit_lines, flights, tile_lines};
-use crate::memory::MemPart;
-use crate::next::next_event;
-use crate::opening::{contexts, seated};
-use crate::sends::{add, put_out, put_out_both, room_at_kernel, room_to_take};
-use crate::tile::{TileDid, TilePart, idle};
-use m3_base::command::Command;
-use m3_base::event::{Event, IdleWhy};
-use m3_base::ids::{ActId, TileId};
+use crate::engine::Engine;
+use m3_base::event::{Entry, Event, Outcome};
 use m3_base::journal::{Audit, AuditLine, Journal};
-use m3_base::order::Order;
 use m3_base::setup::Setup;
-use m3_kernel::done::Done;
-use m3_kernel::kernel::Kernel;
-use m3_link::wires::Wires;
 use std::alloc::{AllocError, Global};
 use std::marker::Model;
 
-/// A machine of tiles with its links and its journal.
+/// A machine of tiles with its journal. Contracts see its setup, the machine as plain data, and the entries so far; the
+/// entries are a run of the ideal machine from the setup's opening, to the state and the placement that it stands for.
 #[derive(Drop)]
 pub struct Machine {
-    kernel: Kernel,
-    memory: MemPart,
-    tiles: Vec<TilePart>,
-    wires: Wires,
+    engine: Engine,
     journal: Journal,
 }
 
 impl Model for Machine {
-    ghost use Rattle.m3_machine.specs.Whole.{Whole};
+    ghost use Rattle.m3_machine.specs.MachineView.{MachineValue};
 
-    ghost Value = { Whole };
+    ghost Value = { MachineValue };
 
-    ghost use Rattle.m3_machine.specs.Whole.{whole_of, IsWhole};
+    ghost use Rattle.m3_machine.specs.MachineView.{machine_value, HasBounds};
 
-    ghost view = { whole_of };
+    ghost view = { machine_value };
 
-    ghost invariant = { IsWhole };
+    ghost invariant = { HasBounds };
 }
 
 /// The most entries that a journal has.
@@ -73,46 +66,79 @@ impl From<AllocError> for StepRefusal {
     }
 }
 
+/// A copy of an event that may be served.
+fn copied(alloc: Global, event: &Event) -> Result<Event, StepRefusal>
+    ensures same { IfOk result (λ e. e ≡ event.now) }
+    ensures memory { IfErr result (λ e. e ≢ StepRefusal.Spent) }
+    ensures unserved { result ≡ Err StepRefusal.Unserved → IsUnserved event.now }
+{
+    match event {
+        Event::Do { act, command } => Ok(Event::Do {
+            act: *act,
+            command: command.copy(alloc)?,
+        }),
+        Event::Take { to, from } => Ok(Event::Take {
+            to: *to,
+            from: *from,
+        }),
+        Event::Tend(act) => Ok(Event::Tend(*act)),
+        Event::Order(order) => Ok(Event::Order(*order)),
+        _ => Err(StepRefusal::Unserved),
+    }
+}
+
+/// An entry joins the journal, which has room for it.
+fn add(entries: &mut Vec<Entry>, event: Event, outcome: Outcome)
+    requires { vec_len entries.old < vec_capacity entries.old }
+    ensures { entries.new.items ≡ entries.old.items ++ entry event outcome ∷ [] }
+{
+    match entries.push(Entry { event, outcome }) {
+        Ok(()) => {}
+        Err(_) => unreachable!(),
+    }
+}
+
 impl Machine {
-    /// The machine that a setup opens, with no entry made: each activity is at its home with its context, and those that
-    /// are the first of their tile are there; no parcel is on any link.
+    /// The machine that a setup opens, with no entry made: it stands for the setup's opening and the opening's placement.
     pub fn open(alloc: Global, setup: Setup) -> Result<Machine, AllocError>
         ensures setup { IfOk result (λ m. m.setup ≡ setup) }
         ensures valid { IfOk result (λ m. IsValid m.setup) }
         ensures entries { IfOk result (λ m. m.entries ≡ []) }
-        ensures whole { IfOk result (λ m. m ≡ opened_whole setup) }
+        ensures whole { IfOk result (λ m. m ≡ initial_machine setup) }
+        ensures ideal { IfOk result (λ m. ideal m ≡ opening setup.memory setup.lines) }
+        ensures placement { IfOk result (λ m. placement m ≡ opening_placement [] setup.lines) }
     {
-        let mut kernel = Kernel::new(alloc, &setup)?;
-        let mut table = contexts(alloc, &setup)?;
-        let tiles = seated(alloc, &setup, &mut kernel, &mut table)?;
-        let memory = MemPart::new(alloc, setup.memory())?;
-        let wires = Wires::new(alloc)?;
+        let engine = Engine::open(alloc, &setup)?;
         let journal = Journal {
             setup,
             entries: Vec::new(alloc),
         };
-        Ok(Machine {
-            kernel,
-            memory,
-            tiles,
-            wires,
-            journal,
-        })
+        Ok(Machine { engine, journal })
     }
 
-    /// The setup, and the entries made so far.
+    /// The setup, and the entries made so far. They are a run of the ideal machine from the setup's opening, with just
+    /// what its steps say, to the state that the machine stands for; and they move its placement from the opening's. After
+    /// every entry the laws hold of credits, order, granted bytes, refusals and revokes.
     pub fn journal(&self) -> &Journal
         ensures setup { result.now.setup ≡ self.now.setup }
         ensures entries { result.now.entries.items ≡ self.now.entries }
+        ensures valid { IsValid self.now.setup }
+        ensures few { length self.now.entries ≤ 2097152 }
+        ensures run { IsRun (opening self.now.setup.memory self.now.setup.lines) self.now.entries }
+        ensures reaches { state_after_entries (opening self.now.setup.memory self.now.setup.lines) self.now.entries ≡ ideal self.now }
+        ensures replies { (a : ℕ) → printed_replies a (opening self.now.setup.memory self.now.setup.lines) self.now.entries ≡ ideal_replies a (opening self.now.setup.memory self.now.setup.lines) (steps_in self.now.entries) }
+        ensures places { PlacementRun (opening self.now.setup.memory self.now.setup.lines) (opening_placement [] self.now.setup.lines) self.now.entries (placement self.now) }
+        ensures laws { AfterEach (KeepsLaws (opening self.now.setup.memory self.now.setup.lines)) self.now.entries }
     {
         &self.journal
     }
 
-    /// Makes one event, and adds its entry. `Spent` comes exactly where the journal has as many entries as it may have.
-    /// After a refusal the machine is as before.
+    /// Makes one event, and adds its entry, which says what the ideal machine's steps say; the ideal state and the
+    /// placement move by it. `Spent` comes exactly where the journal has as many entries as it may have. After a refusal
+    /// the machine is as before.
     pub fn step(&mut self, alloc: Global, event: Event) -> Result<(), StepRefusal>
-        requires { IsOfSetup (site self.old.setup) event }
-        ensures ok { OnOk result (Steps self.old event self.new) }
+        requires { NamesActs self.old.setup event }
+        ensures ok { OnOk result (IsStep self.old event self.new) }
         ensures served { OnOk result (IsServed event) }
         ensures err { OnErr result (self.new ≡ self.old) }
         ensures spent { result ≡ Err StepRefusal.Spent ↔ length self.old.entries ≡ 2097152 }
@@ -121,205 +147,10 @@ impl Machine {
         if self.journal.entries.len() == MOST_ENTRIES {
             return Err(StepRefusal::Spent);
         }
-        match event {
-            Event::Do { act, command } => self.command(alloc, act, command),
-            Event::Take { to, from } => self.take(to, from),
-            Event::Tend(act) => self.tend(alloc, act),
-            Event::Order(order) => self.order(&order),
-            _ => Err(StepRefusal::Unserved),
-        }
-    }
-
-    fn command(&mut self, alloc: Global, act: ActId, command: Command) -> Result<(), StepRefusal>
-        requires declared { is_home (site self.old.setup) act ≡ true }
-        requires room { length self.old.entries < 2097152 }
-        ensures ok { OnOk result (Steps self.old (Event.Do act command) self.new) }
-        ensures err { OnErr result (self.new ≡ self.old) }
-        ensures memory { IfErr result (λ e. e ≡ StepRefusal.NoMemory) }
-    {
-        let Some(tile) = self.kernel.site().home(act) else {
-            unreachable!();
-        };
-        let at = usize::from(tile.number());
-        let event = Event::Do {
-            act,
-            command: command.copy(alloc)?,
-        };
         self.journal.entries.reserve(1)?;
-        let to = self.tiles[at].aim(self.kernel.site(), &command);
-        self.wires.reserve(tile, to)?;
-        let did = self.tiles[at].command(alloc, self.kernel.site(), act, command)?;
-        let TileDid { outcome, emit } = did;
-        put_out(&mut self.wires, tile, emit);
-        add(&mut self.journal.entries, event, outcome);
-        Ok(())
-    }
-
-    fn take(&mut self, to: TileId, from: TileId) -> Result<(), StepRefusal>
-        requires room { length self.old.entries < 2097152 }
-        ensures ok { OnOk result (Steps self.old (Event.Take to from) self.new) }
-        ensures err { OnErr result (self.new ≡ self.old) }
-        ensures memory { IfErr result (λ e. e ≡ StepRefusal.NoMemory) }
-    {
-        if self.wires.is_empty(from, to) {
-            return self.take_nothing(to, from);
-        }
-        match to.number() {
-            0 => self.take_at_kernel(from),
-            1 => self.take_at_memory(from),
-            _ => self.take_at_tile(to, from),
-        }
-    }
-
-    /// The link is empty.
-    fn take_nothing(&mut self, to: TileId, from: TileId) -> Result<(), StepRefusal>
-        requires room { length self.old.entries < 2097152 }
-        requires none { link_at from to self.old.machine ≡ [] }
-        ensures ok { OnOk result (Steps self.old (Event.Take to from) self.new) }
-        ensures err { OnErr result (self.new ≡ self.old) }
-        ensures memory { IfErr result (λ e. e ≡ StepRefusal.NoMemory) }
-    {
-        self.journal.entries.reserve(1)?;
-        let outcome = idle(IdleWhy::EmptyLink);
-        add(&mut self.journal.entries, Event::Take { to, from }, outcome);
-        Ok(())
-    }
-
-    /// The kernel takes the front of its link. Where it has no memory for it, the parcel is the front again.
-    fn take_at_kernel(&mut self, from: TileId) -> Result<(), StepRefusal>
-        requires room { length self.old.entries < 2097152 }
-        requires some { HasParcel (link_at from 0 self.old.machine) }
-        ensures ok { OnOk result (Steps self.old (Event.Take 0 from) self.new) }
-        ensures err { OnErr result (self.new ≡ self.old) }
-        ensures memory { IfErr result (λ e. e ≡ StepRefusal.NoMemory) }
-    {
-        let to = TileId::new(0);
-        self.journal.entries.reserve(1)?;
-        room_at_kernel(self.kernel.site(), &mut self.wires, from)?;
-        match self.wires.take(from, to) {
-            None => unreachable!(),
-            Some(parcel) => match self.kernel.take(parcel) {
-                Ok(done) => {
-                    let Done {
-                        outcome,
-                        first,
-                        second,
-                    } = done;
-                    put_out_both(&mut self.wires, to, first, second);
-                    add(&mut self.journal.entries, Event::Take { to, from }, outcome);
-                    Ok(())
-                }
-                Err((parcel, _)) => {
-                    self.wires.put_back(from, to, parcel);
-                    Err(StepRefusal::NoMemory)
-                }
-            },
-        }
-    }
-
-    /// The memory takes the front of its link.
-    fn take_at_memory(&mut self, from: TileId) -> Result<(), StepRefusal>
-        requires room { length self.old.entries < 2097152 }
-        requires some { HasParcel (link_at from 1 self.old.machine) }
-        ensures ok { OnOk result (Steps self.old (Event.Take 1 from) self.new) }
-        ensures err { OnErr result (self.new ≡ self.old) }
-        ensures memory { IfErr result (λ e. e ≡ StepRefusal.NoMemory) }
-    {
-        let to = TileId::new(1);
-        self.journal.entries.reserve(1)?;
-        room_to_take(self.kernel.site(), &mut self.wires, from, to)?;
-        match self.wires.take(from, to) {
-            None => unreachable!(),
-            Some(parcel) => {
-                let TileDid { outcome, emit } = self.memory.take(self.kernel.site(), parcel);
-                put_out(&mut self.wires, to, emit);
-                add(&mut self.journal.entries, Event::Take { to, from }, outcome);
-                Ok(())
-            }
-        }
-    }
-
-    /// A tile takes the front of its link.
-    fn take_at_tile(&mut self, to: TileId, from: TileId) -> Result<(), StepRefusal>
-        requires room { length self.old.entries < 2097152 }
-        requires high { 2 ≤ to }
-        requires some { HasParcel (link_at from to self.old.machine) }
-        ensures ok { OnOk result (Steps self.old (Event.Take to from) self.new) }
-        ensures err { OnErr result (self.new ≡ self.old) }
-        ensures memory { IfErr result (λ e. e ≡ StepRefusal.NoMemory) }
-    {
-        let at = usize::from(to.number());
-        self.journal.entries.reserve(1)?;
-        room_to_take(self.kernel.site(), &mut self.wires, from, to)?;
-        match self.wires.take(from, to) {
-            None => unreachable!(),
-            Some(parcel) => {
-                let TileDid { outcome, emit } = self.tiles[at].take(self.kernel.site(), parcel);
-                put_out(&mut self.wires, to, emit);
-                add(&mut self.journal.entries, Event::Take { to, from }, outcome);
-                Ok(())
-            }
-        }
-    }
-
-    /// The front of an activity's hold list is applied to its context.
-    fn tend(&mut self, alloc: Global, act: ActId) -> Result<(), StepRefusal>
-        requires room { length self.old.entries < 2097152 }
-        ensures ok { OnOk result (Steps self.old (Event.Tend act) self.new) }
-        ensures err { OnErr result (self.new ≡ self.old) }
-        ensures memory { IfErr result (λ e. e ≡ StepRefusal.NoMemory) }
-    {
-        let from = TileId::new(0);
-        let aim = self.kernel.tend_aim(act);
-        let home = self.kernel.site().tile_of(act.number());
-        self.journal.entries.reserve(1)?;
-        self.wires.reserve(from, aim)?;
-        self.wires.reserve(from, from)?;
-        self.wires.reserve(from, home)?;
-        let done = self.kernel.tend(alloc, act)?;
-        let Done {
-            outcome,
-            first,
-            second,
-        } = done;
-        put_out_both(&mut self.wires, from, first, second);
-        add(&mut self.journal.entries, Event::Tend(act), outcome);
-        Ok(())
-    }
-
-    /// An order of the kernel; of these switches alone are served.
-    fn order(&mut self, order: &Order) -> Result<(), StepRefusal>
-        requires room { length self.old.entries < 2097152 }
-        ensures ok { OnOk result (Steps self.old (Event.Order order.now) self.new) }
-        ensures served { OnOk result (IsServed (Event.Order order.now)) }
-        ensures err { OnErr result (self.new ≡ self.old) }
-        ensures memory { IfErr result (λ e. e ≢ StepRefusal.Spent) }
-        ensures unserved { result ≡ Err StepRefusal.Unserved → IsUnserved (Event.Order order.now) }
-    {
-        match order {
-            Order::Switch { tile, act } => self.switch(*tile, *act),
-            _ => Err(StepRefusal::Unserved),
-        }
-    }
-
-    /// The activity is to come to the tile.
-    fn switch(&mut self, tile: TileId, act: ActId) -> Result<(), StepRefusal>
-        requires room { length self.old.entries < 2097152 }
-        ensures ok { OnOk result (Steps self.old (Event.Order (Order.Switch tile act)) self.new) }
-        ensures err { OnErr result (self.new ≡ self.old) }
-        ensures memory { IfErr result (λ e. e ≡ StepRefusal.NoMemory) }
-    {
-        let from = TileId::new(0);
-        self.journal.entries.reserve(1)?;
-        self.wires.reserve(from, tile)?;
-        let Done {
-            outcome,
-            first,
-            second,
-        } = self.kernel.switch(tile, act);
-        put_out_both(&mut self.wires, from, first, second);
-        let event = Event::Order(Order::Switch { tile, act });
-        add(&mut self.journal.entries, event, outcome);
+        let noted = copied(alloc, &event)?;
+        let outcome = self.engine.step(alloc, event)?;
+        add(&mut self.journal.entries, noted, outcome);
         Ok(())
     }
 
@@ -327,30 +158,23 @@ impl Machine {
     /// sending tile, among links that aren't empty; then the tend of the least activity that is Resting or Coming and for
     /// which something is held; then a close, where a grant is due.
     pub fn next(&self) -> Option<Event>
-        ensures { result ≡ next_event self.now.machine }
+        ensures { result ≡ next_event (ideal self.now) (placement self.now) [] }
     {
-        next_event(&self.wires, &self.kernel)
+        self.engine.next()
     }
 
     /// The closing lines: the credits of each send grant, the current activity of each tile from 2 on, the flights, and
     /// whether the driver has nothing more to do.
     pub fn audit(&self, alloc: Global) -> Result<Audit, AllocError>
-        ensures lines { IfOk result (λ a. a.lines.items ≡ lines self.now) }
-        ensures ideal { IsCounted self.now → IfOk result (λ a. a.lines.items ≡ ideal_lines self.now) }
-        ensures few { length self.now.entries ≤ 2097152 }
+        ensures { IfOk result (λ a. a.lines.items ≡ audit_lines self.now.setup.tiles (ideal self.now) (placement self.now) []) }
     {
         let mut lines = Vec::new(alloc);
-        let seats = self.kernel.seats();
-        credit_lines(
-            alloc,
-            self.kernel.grants(),
-            &self.tiles,
-            seats,
-            &self.wires,
-            &mut lines,
-        )?;
-        tile_lines(self.journal.setup.tiles(), &self.tiles, &mut lines)?;
-        lines.push(AuditLine::Flights(flights(seats, &self.wires)))?;
+        let seats = self.engine.seats();
+        let tiles = self.engine.tiles();
+        let wires = self.engine.wires();
+        credit_lines(alloc, self.engine.grants(), tiles, seats, wires, &mut lines)?;
+        tile_lines(self.journal.setup.tiles(), tiles, &mut lines)?;
+        lines.push(AuditLine::Flights(flights(seats, wires)))?;
         lines.push(AuditLine::Quiet(self.next().is_none()))?;
         Ok(Audit { lines })
     }

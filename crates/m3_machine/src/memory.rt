@@ -1,10 +1,10 @@
 //! The memory's part: it serves the reads and writes that it takes.
 
 ghost use Rattle.std.specs.Prelude.{◌≡◌, ◌+◌, nat_le, length, replicate, IfOk};
-ghost use Rattle.m3_kernel.specs.Parcels.{parcel_of};
-ghost use Rattle.m3_machine.specs.Memory.{serve, memory_take};
+ghost use Rattle.m3_kernel.specs.ParcelView.{parcel_of};
+ghost use Rattle.m3_model.specs.Memory.Step.{serve, memory_take};
 ghost use Rattle.m3_machine.specs.MemoryView.{may_serve_packet};
-ghost use Rattle.m3_machine.specs.Telling.{Does};
+ghost use Rattle.m3_machine.specs.TileStepView.{Does};
 
 use crate::tile::{TileDid, is_idle, says};
 use m3_base::event::{IdleWhy, Said};

@@ -1,9 +1,9 @@
 //! What the driver does next.
 
 ghost use Rattle.std.specs.Prelude.{◌≡◌};
-ghost use Rattle.m3_base.specs.Driver.{least_of};
-ghost use Rattle.m3_kernel.specs.Seats.{seat_value, seats_of};
-ghost use Rattle.m3_machine.specs.Next.{next_take_at, next_take_on, can_tend, least_tend, next_of};
+ghost use Rattle.m3_base.specs.Placement.Driver.{least_of};
+ghost use Rattle.m3_kernel.specs.ActivityView.{seat_value, seats_of};
+ghost use Rattle.m3_trace.specs.DriverOfMachine.{next_take_at, next_take_on, can_tend, least_tend, next_of};
 
 use m3_base::event::Event;
 use m3_base::ids::{ActId, TileId};

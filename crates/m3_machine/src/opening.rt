@@ -1,18 +1,18 @@
 //! The contexts that a setup opens with.
 
 ghost use Rattle.std.specs.Prelude.{◌≡◌, ℕ, ◌+◌, ◌≤◌, List, ◌∷◌, [], length, replicate, slice_set, slice_index_or, None, Some, IfOk, OnOk};
-ghost use Rattle.m3_base.specs.Context.{Context, new_context, with_endpoint, opened};
-ghost use Rattle.m3_base.specs.Opening.{opening};
+ghost use Rattle.m3_base.specs.Ideal.Context.{Context, new_context, with_endpoint, new_endpoint};
+ghost use Rattle.m3_base.specs.Ideal.Opening.{opening};
 ghost use Rattle.m3_base.specs.declared.setup_line.SetupLine.{SetupLine};
-ghost use Rattle.m3_base.specs.Setup.{IsValid};
-ghost use Rattle.m3_machine.specs.Table.{HasContexts};
-ghost use Rattle.m3_machine.specs.Progress.{AtLine, Progress, CanInstall};
-ghost use Rattle.m3_machine.specs.Low.{HasLow};
-ghost use Rattle.m3_machine.specs.Machine.{empty_tiles};
-ghost use Rattle.m3_kernel.specs.Kernel.{seat_of};
-ghost use Rattle.m3_kernel.specs.Readers.{with_new_seat, HasPlaceFor};
+ghost use Rattle.m3_base.specs.Setup.Rules.{IsValid};
+ghost use Rattle.m3_model.specs.ContextTable.{HasContexts};
+ghost use Rattle.m3_machine.specs.OpeningInvariant.{AtLine, Progress, CanInstall};
+ghost use Rattle.m3_model.specs.NumberBounds.{HasBoundedCounters};
+ghost use Rattle.m3_model.specs.Machine.{empty_tiles};
+ghost use Rattle.m3_model.specs.Kernel.Step.{entry_of};
+ghost use Rattle.m3_kernel.specs.KernelQueries.{with_new_seat, HasPlaceFor};
 ghost use Rattle.m3_machine.specs.TileView.{seated_with};
-ghost use Rattle.m3_machine.specs.Seated.{rests_with, IsOpening, IsOpened};
+ghost use Rattle.m3_machine.specs.OpenedParts.{rests_with, IsOpening, IsOpened};
 
 use crate::tile::TilePart;
 use m3_base::ids::{ActId, EpId, GrantId, TileId};
@@ -48,7 +48,7 @@ fn declare(alloc: Global, table: &mut Vec<Option<Context>>, act: ActId) -> Resul
 fn install(table: &mut Vec<Option<Context>>, act: ActId, ep: EpId, fresh: Fresh)
     requires count { length table.old.items ≡ 64 }
     requires can { CanInstall table.old.items act ep fresh }
-    ensures { (c : Context) → slice_index_or table.old.items act None ≡ Some c → table.new.items ≡ slice_set table.old.items act (Some (with_endpoint c ep (opened fresh))) }
+    ensures { (c : Context) → slice_index_or table.old.items act None ≡ Some c → table.new.items ≡ slice_set table.old.items act (Some (with_endpoint c ep (new_endpoint fresh))) }
 {
     match &mut table[usize::from(act.number())] {
         None => unreachable!(),
@@ -97,7 +97,7 @@ fn read(
 pub fn contexts(alloc: Global, setup: &Setup) -> Result<Vec<Option<Context>>, AllocError>
     ensures valid { IfOk result (λ t. IsValid setup.now) }
     ensures contexts { IfOk result (λ t. HasContexts t.items (opening setup.now.memory setup.now.lines).contexts) }
-    ensures low { IfOk result (λ t. (a : ℕ) (c : Context) → slice_index_or t.items a None ≡ Some c → HasLow 0 c) }
+    ensures low { IfOk result (λ t. (a : ℕ) (c : Context) → slice_index_or t.items a None ≡ Some c → HasBoundedCounters 0 c) }
 {
     let mut table = no_contexts(alloc)?;
     let mut count = 0;
@@ -126,7 +126,7 @@ fn seat(
     act: ActId,
     context: Option<Context>,
 ) -> Result<(), AllocError>
-    requires fresh { seat_of act kernel.old.kernel ≡ None }
+    requires fresh { entry_of act kernel.old.kernel ≡ None }
     requires place { HasPlaceFor kernel.old act (rests_with tile.old.current context) }
     ensures tile { OnOk result (tile.new ≡ seated_with act context tile.old) }
     ensures kernel { OnOk result (kernel.new ≡ with_new_seat act (rests_with tile.old.current context) kernel.old) }

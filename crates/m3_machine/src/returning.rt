@@ -2,12 +2,13 @@
 
 ghost use Rattle.std.specs.Prelude.{◌≡◌, ◌&&◌, ◌≤◌, IsSome, length};
 ghost use Rattle.std.specs.List.{list_all};
-ghost use Rattle.m3_kernel.specs.Naming.{is_from_home, is_fetched_from_home, names_at, is_named_context, has_low_token, has_low_numbers};
-ghost use Rattle.m3_core.specs.Sound.{IsSoundRecord};
-ghost use Rattle.m3_endpoint.specs.Records.{endpoint_of};
-ghost use Rattle.m3_machine.specs.Records.{unread_of, fetched_of};
+ghost use Rattle.m3_model.specs.Config.KnownActivities.{is_from_home, is_fetched_from_home, names_at, is_named_context, has_bounded_token, has_bounded_counters};
+ghost use Rattle.m3_model.specs.Tile.Step.{may_return};
+ghost use Rattle.m3_core.specs.MessageInvariant.{IsSoundRecord};
+ghost use Rattle.m3_endpoint.specs.RecordView.{endpoint_of};
+ghost use Rattle.m3_machine.specs.ReceiveRecordView.{unread_of, fetched_of};
 
-use m3_base::ids::EpId;
+use m3_base::ids::{ActId, EpId};
 use m3_base::packet::Fresh;
 use m3_core::context::Context;
 use m3_endpoint::endpoint::Record;
@@ -72,7 +73,7 @@ fn names_at(site: &Site, occupant: &Record) -> bool
 /// Whether the next token of the record is low.
 fn has_low_token(occupant: &Record) -> bool
     requires { IsSoundRecord occupant.now }
-    ensures { result ≡ has_low_token (endpoint_of occupant.now) }
+    ensures { result ≡ has_bounded_token (endpoint_of occupant.now) }
 {
     match occupant {
         Record::Receive(record) => record.next_token() <= MOST_NEXT,
@@ -94,7 +95,7 @@ fn names_context(site: &Site, context: &Context) -> bool
 
 /// Whether the next tokens of a context are low.
 fn has_low_tokens(context: &Context) -> bool
-    ensures { result ≡ list_all has_low_token context.now.endpoints }
+    ensures { result ≡ list_all has_bounded_token context.now.endpoints }
 {
     for ep in 0..16u8 {
         if !has_low_token(context.endpoint(EpId::new(ep))) {
@@ -106,15 +107,15 @@ fn has_low_tokens(context: &Context) -> bool
 
 /// Whether the next number and the next tokens of a context are low.
 fn has_low_numbers(context: &Context) -> bool
-    ensures { result ≡ has_low_numbers context.now }
+    ensures { result ≡ has_bounded_counters context.now }
 {
     context.next_number() <= MOST_NEXT && has_low_tokens(context)
 }
 
-/// Whether a context may come back: its records and messages name activities of the setup alone, and its next number and
+/// Whether this activity may come back with a context: it is its own, its records and messages name activities of the setup alone, and its next number and
 /// next tokens are at most 2,097,153. It costs in proportion to the context.
-pub fn may_return(site: &Site, context: &Context) -> bool
-    ensures { result ≡ (is_named_context site.now context.now && has_low_numbers context.now) }
+pub fn may_return(site: &Site, act: ActId, context: &Context) -> bool
+    ensures { result ≡ may_return site.now act context.now }
 {
-    names_context(site, context) && has_low_numbers(context)
+    context.act() == act && (names_context(site, context) && has_low_numbers(context))
 }

@@ -1,12 +1,12 @@
 //! The contexts of activities, wherever they are.
 
 ghost use Rattle.std.specs.Prelude.{◌≡◌, ℕ, ◌∷◌, [], length, replicate, map, None, IfOk};
-ghost use Rattle.m3_kernel.specs.Parcels.{parcel_of, parcels_of};
-ghost use Rattle.m3_kernel.specs.Seats.{seat_value, seats_of};
-ghost use Rattle.m3_machine.specs.At.{each, on_links, here, away, contexts_in};
-ghost use Rattle.m3_machine.specs.Closing.{contexts_of};
-ghost use Rattle.m3_link.specs.Wires.{lists_in};
-ghost use Rattle.m3_machine.specs.Tally.{listed, last_of, Enters};
+ghost use Rattle.m3_kernel.specs.ParcelView.{parcel_of, parcels_of};
+ghost use Rattle.m3_kernel.specs.ActivityView.{seat_value, seats_of};
+ghost use Rattle.m3_model.specs.Abstraction.{flat_map, flat_links, tile_contexts, entry_contexts, contexts_in};
+ghost use Rattle.m3_machine.specs.AuditView.{contexts_of};
+ghost use Rattle.m3_link.specs.LinksView.{lists_in};
+ghost use Rattle.m3_machine.specs.CreditCounts.{listed, last_of, Enters};
 
 use crate::tile::TilePart;
 use m3_core::context::Context;
@@ -36,7 +36,7 @@ fn enter<'a>(roster: &mut Vec<Option<&'a Context>>, context: &'a Context)
 
 fn enter_tile<'a>(roster: &mut Vec<Option<&'a Context>>, tile: &'a TilePart)
     requires { length roster.old.items ≡ 256 }
-    ensures { Enters (here tile.now) roster.old.items roster.new.items }
+    ensures { Enters (tile_contexts tile.now) roster.old.items roster.new.items }
 {
     if let Some(context) = tile.current() {
         enter(roster, context);
@@ -45,7 +45,7 @@ fn enter_tile<'a>(roster: &mut Vec<Option<&'a Context>>, tile: &'a TilePart)
 
 fn enter_tiles<'a>(roster: &mut Vec<Option<&'a Context>>, tiles: &'a [TilePart])
     requires { length roster.old.items ≡ 256 }
-    ensures { Enters (each here tiles.now) roster.old.items roster.new.items }
+    ensures { Enters (flat_map tile_contexts tiles.now) roster.old.items roster.new.items }
 {
     for tile in tiles {
         enter_tile(roster, tile);
@@ -54,7 +54,7 @@ fn enter_tiles<'a>(roster: &mut Vec<Option<&'a Context>>, tiles: &'a [TilePart])
 
 fn enter_seat<'a>(roster: &mut Vec<Option<&'a Context>>, seat: &'a Seat)
     requires { length roster.old.items ≡ 256 }
-    ensures { Enters (away (seat_value seat.now)) roster.old.items roster.new.items }
+    ensures { Enters (entry_contexts (seat_value seat.now)) roster.old.items roster.new.items }
 {
     if let Some(context) = seat.context() {
         enter(roster, context);
@@ -63,7 +63,7 @@ fn enter_seat<'a>(roster: &mut Vec<Option<&'a Context>>, seat: &'a Seat)
 
 fn enter_seats<'a>(roster: &mut Vec<Option<&'a Context>>, seats: &'a [Seat])
     requires { length roster.old.items ≡ 256 }
-    ensures { Enters (each away (seats_of seats.now)) roster.old.items roster.new.items }
+    ensures { Enters (flat_map entry_contexts (seats_of seats.now)) roster.old.items roster.new.items }
 {
     for seat in seats {
         enter_seat(roster, seat);
@@ -83,7 +83,7 @@ fn enter_parcel<'a>(roster: &mut Vec<Option<&'a Context>>, parcel: &'a Parcel)
 
 fn enter_link<'a>(roster: &mut Vec<Option<&'a Context>>, link: &'a VecDeque<Parcel>)
     requires { length roster.old.items ≡ 256 }
-    ensures { Enters (each contexts_in (map parcel_of link.now.items)) roster.old.items roster.new.items }
+    ensures { Enters (flat_map contexts_in (map parcel_of link.now.items)) roster.old.items roster.new.items }
 {
     for parcel in link.iter() {
         enter_parcel(roster, parcel);
@@ -92,7 +92,7 @@ fn enter_link<'a>(roster: &mut Vec<Option<&'a Context>>, link: &'a VecDeque<Parc
 
 fn enter_links<'a>(roster: &mut Vec<Option<&'a Context>>, links: &'a [VecDeque<Parcel>])
     requires { length roster.old.items ≡ 256 }
-    ensures { Enters (on_links contexts_in (parcels_of (lists_in links.now))) roster.old.items roster.new.items }
+    ensures { Enters (flat_links contexts_in (parcels_of (lists_in links.now))) roster.old.items roster.new.items }
 {
     for link in links {
         enter_link(roster, link);

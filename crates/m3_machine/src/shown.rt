@@ -1,8 +1,8 @@
 //! What an entry shows of a message that is fetched.
 
 ghost use Rattle.std.specs.Prelude.{◌≡◌, IfOk, option_map};
-ghost use Rattle.m3_core.specs.Issuing.{oldest};
-ghost use Rattle.m3_machine.specs.Telling.{shown_of, said_fetched};
+ghost use Rattle.m3_core.specs.IssueView.{oldest};
+ghost use Rattle.m3_machine.specs.TileStepView.{shown_of, said_fetched};
 
 use m3_base::command::Command;
 use m3_base::event::Said;

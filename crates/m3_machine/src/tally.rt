@@ -1,14 +1,14 @@
 //! The credits of send grants, counted by grant.
 
 ghost use Rattle.std.specs.Prelude.{◌≡◌, ℕ, ◌∷◌, [], length, replicate, map, Option, Some, IfOk};
-ghost use Rattle.m3_base.specs.Context.{Context as Its};
-ghost use Rattle.m3_base.specs.State.{is_number};
-ghost use Rattle.m3_base.specs.Credit.{gives_back_by, gives_back_in};
-ghost use Rattle.m3_kernel.specs.Parcels.{parcel_of, parcels_of};
-ghost use Rattle.m3_kernel.specs.Seats.{seat_value, seats_of};
-ghost use Rattle.m3_machine.specs.At.{each, on_links, here, away, held_by, contexts_in, packets_in};
-ghost use Rattle.m3_link.specs.Wires.{lists_in};
-ghost use Rattle.m3_machine.specs.Tally.{listed, carries, Counts};
+ghost use Rattle.m3_base.specs.Ideal.Context.{Context as Its};
+ghost use Rattle.m3_base.specs.Ideal.State.{is_number};
+ghost use Rattle.m3_base.specs.Ideal.Credits.{gives_back_by, gives_back_in};
+ghost use Rattle.m3_kernel.specs.ParcelView.{parcel_of, parcels_of};
+ghost use Rattle.m3_kernel.specs.ActivityView.{seat_value, seats_of};
+ghost use Rattle.m3_model.specs.Abstraction.{flat_map, flat_links, tile_contexts, entry_contexts, held_by, contexts_in, packets_in};
+ghost use Rattle.m3_link.specs.LinksView.{lists_in};
+ghost use Rattle.m3_machine.specs.CreditCounts.{listed, carries, Counts};
 
 use crate::tile::TilePart;
 use m3_base::command::Answer;
@@ -142,7 +142,7 @@ impl Tally {
     }
 
     fn tile(&mut self, tile: &TilePart)
-        ensures { (find : ℕ → Option Its) → Counts find (here tile.now) [] self.old self.new }
+        ensures { (find : ℕ → Option Its) → Counts find (tile_contexts tile.now) [] self.old self.new }
     {
         if let Some(context) = tile.current() {
             self.context(context);
@@ -151,7 +151,7 @@ impl Tally {
 
     /// Counts what the current activities have.
     pub fn tiles(&mut self, tiles: &[TilePart])
-        ensures { (find : ℕ → Option Its) → Counts find (each here tiles.now) [] self.old self.new }
+        ensures { (find : ℕ → Option Its) → Counts find (flat_map tile_contexts tiles.now) [] self.old self.new }
     {
         for tile in tiles {
             self.tile(tile);
@@ -168,7 +168,7 @@ impl Tally {
     }
 
     fn rest(&mut self, seat: &Seat)
-        ensures { (find : ℕ → Option Its) → Counts find (away (seat_value seat.now)) [] self.old self.new }
+        ensures { (find : ℕ → Option Its) → Counts find (entry_contexts (seat_value seat.now)) [] self.old self.new }
     {
         if let Some(context) = seat.context() {
             self.context(context);
@@ -177,7 +177,7 @@ impl Tally {
 
     fn seat(&mut self, roster: &[Option<&Context>], seat: &Seat)
         requires { length roster.now ≡ 256 }
-        ensures { Counts (listed roster.now) (away (seat_value seat.now)) (held_by (seat_value seat.now)) self.old self.new }
+        ensures { Counts (listed roster.now) (entry_contexts (seat_value seat.now)) (held_by (seat_value seat.now)) self.old self.new }
     {
         self.rest(seat);
         self.hold(roster, seat.hold());
@@ -186,7 +186,7 @@ impl Tally {
     /// Counts what the kernel has, where the activities' contexts are listed so.
     pub fn seats(&mut self, roster: &[Option<&Context>], seats: &[Seat])
         requires { length roster.now ≡ 256 }
-        ensures { Counts (listed roster.now) (each away (seats_of seats.now)) (each held_by (seats_of seats.now)) self.old self.new }
+        ensures { Counts (listed roster.now) (flat_map entry_contexts (seats_of seats.now)) (flat_map held_by (seats_of seats.now)) self.old self.new }
     {
         for seat in seats {
             self.seat(roster, seat);
@@ -195,7 +195,7 @@ impl Tally {
 
     fn link(&mut self, roster: &[Option<&Context>], link: &VecDeque<Parcel>)
         requires { length roster.now ≡ 256 }
-        ensures { Counts (listed roster.now) (each contexts_in (map parcel_of link.now.items)) (each packets_in (map parcel_of link.now.items)) self.old self.new }
+        ensures { Counts (listed roster.now) (flat_map contexts_in (map parcel_of link.now.items)) (flat_map packets_in (map parcel_of link.now.items)) self.old self.new }
     {
         for parcel in link.iter() {
             self.parcel(roster, parcel);
@@ -205,7 +205,7 @@ impl Tally {
     /// Counts what the parcels on links have, where the activities' contexts are listed so.
     pub fn links(&mut self, roster: &[Option<&Context>], links: &[VecDeque<Parcel>])
         requires { length roster.now ≡ 256 }
-        ensures { Counts (listed roster.now) (on_links contexts_in (parcels_of (lists_in links.now))) (on_links packets_in (parcels_of (lists_in links.now))) self.old self.new }
+        ensures { Counts (listed roster.now) (flat_links contexts_in (parcels_of (lists_in links.now))) (flat_links packets_in (parcels_of (lists_in links.now))) self.old self.new }
     {
         for link in links {
             self.link(roster, link);

@@ -2,17 +2,20 @@
 
 ghost use Rattle.std.specs.Prelude.{◌≡◌, ◌==◌, ◌∷◌, ◌++◌, [], List, IfOk, OnOk, OnErr, None, Some, is_some, option_copied};
 ghost use Rattle.std.specs.List.{list_any};
-ghost use Rattle.m3_core.specs.Conditions.{IsBufferFor};
-ghost use Rattle.m3_base.specs.Places.{target, is_here};
-ghost use Rattle.m3_kernel.specs.Came.{AtMostOne};
-ghost use Rattle.m3_kernel.specs.Parts.{Heard, closed_out};
-ghost use Rattle.m3_machine.specs.Tile.{tile_do, new_out, act_in, stay_of, arrive_named, take_data, take_save, take_restore, tile_take};
-ghost use Rattle.m3_machine.specs.Telling.{said_issued, packet_issued, plain, Lands, Does};
-ghost use Rattle.m3_kernel.specs.Parcels.{parcel_of, out_of};
-ghost use Rattle.m3_machine.specs.Machine.{empty_tile};
-ghost use Rattle.m3_machine.specs.TileView.{CanIssue, aim_at, runs, seated_with};
+ghost use Rattle.m3_core.specs.Preconditions.{IsBufferFor};
+ghost use Rattle.m3_base.specs.Placement.Routing.{target};
+ghost use Rattle.m3_base.specs.Placement.Take.{is_here};
+ghost use Rattle.m3_kernel.specs.ArrivalView.{AtMostOne};
+ghost use Rattle.m3_model.specs.Parcel.{Heard};
+ghost use Rattle.m3_model.specs.Tile.State.{Tile};
+ghost use Rattle.m3_model.specs.LocalStep.{closed_out};
+ghost use Rattle.m3_model.specs.Tile.Step.{tile_do, new_out, act_in, resident_of, arrive_named, bounced, take_data, take_save, take_restore, tile_take};
+ghost use Rattle.m3_machine.specs.TileStepView.{said_issued, packet_issued, Lands, Does};
+ghost use Rattle.m3_base.specs.ExtentFiles.ScriptEntries.{plain_outcome as plain};
+ghost use Rattle.m3_kernel.specs.ParcelView.{parcel_of, out_of};
+ghost use Rattle.m3_model.specs.Machine.{empty_tile};
+ghost use Rattle.m3_machine.specs.TileView.{CanIssue, runs, seated_with};
 
-use crate::aims::aim;
 use crate::returning::may_return;
 use crate::shown::{Shown, fetched, front};
 use m3_base::command::Command;
@@ -44,7 +47,7 @@ pub struct TilePart {
 }
 
 impl Model for TilePart {
-    ghost use Rattle.m3_kernel.specs.Parts.{Tile};
+    ghost use Rattle.m3_model.specs.Tile.State.{Tile};
     ghost use Rattle.m3_machine.specs.TileView.{tile_value};
 
     ghost Value = { Tile };
@@ -174,6 +177,16 @@ fn land(site: &Site, context: &mut Context, packet: Packet) -> TileDid
     lands(site, meet(context, packet))
 }
 
+/// Data for another activity goes to the kernel. Data for none, a read or a write, is dropped.
+fn bounced(packet: Packet) -> TileDid
+    ensures { (t : Tile) → Does result t (bounced t packet (target packet)) }
+{
+    if target_of(&packet).is_none() {
+        return is_idle(IdleWhy::EmptyLink);
+    }
+    says(Said::Bounced(packet.id()), to_kernel(Parcel::Data(packet)))
+}
+
 fn is_among(acts: &[ActId], act: ActId) -> bool
     ensures { result ≡ list_any (λ a. a == act) acts.now }
 {
@@ -209,16 +222,6 @@ impl TilePart {
         ensures { option_copied result ≡ self.now.current }
     {
         self.current.as_ref()
-    }
-
-    /// The tile that the packet of this command goes to, where one arises.
-    pub fn aim(&self, site: &Site, command: &Command) -> TileId
-        ensures { result ≡ aim_at site.now self.now.current command.now }
-    {
-        match &self.current {
-            None => TileId::new(0),
-            Some(context) => aim(site, context, command),
-        }
     }
 
     /// The activity makes a command. It is idle where the activity isn't the current one, and then where the command
@@ -272,7 +275,7 @@ impl TilePart {
 
     /// Whether this activity has its home here.
     fn houses(&self, act: ActId) -> bool
-        ensures { result ≡ is_some (stay_of act self.now) }
+        ensures { result ≡ is_some (resident_of act self.now) }
     {
         is_among(self.acts.as_slice(), act)
     }
@@ -288,7 +291,7 @@ impl TilePart {
             None => unreachable!(),
             Some(context) => {
                 let saved = Parcel::Saved {
-                    act,
+                    act: act,
                     context,
                     waiting: false,
                     ended: false,
@@ -298,40 +301,42 @@ impl TilePart {
         }
     }
 
-    /// The activity of this context runs here, where nobody does, it has its home here, and the context may come back.
-    fn restore(&mut self, site: &Site, context: Context) -> TileDid
-        ensures { (heard : List Heard) → Does result self.new (take_restore site.now self.old context heard self.old.current) }
+    /// This activity runs here with its context, where nobody runs, it has its home here, the context is its own, and the
+    /// context may come back.
+    fn restore(&mut self, site: &Site, act: ActId, context: Context) -> TileDid
+        ensures { (heard : List Heard) → Does result self.new (take_restore site.now self.old act context heard self.old.current) }
     {
-        let act = context.act();
-        if self.current.is_some() || !may_return(site, &context) || !self.houses(act) {
+        let owner = context.act();
+        if self.current.is_some() || !may_return(site, act, &context) || !self.houses(owner) {
             return is_idle(IdleWhy::EmptyLink);
         }
         self.current = Some(context);
-        says(Said::Current(act), None)
+        says(Said::Current(owner), None)
     }
 
     /// The tile takes a parcel. Data goes as `take_data` says. A Save of the current activity sends its context to the
-    /// kernel. A Restore comes where nobody runs, its activity has its home here, its context names activities of the
-    /// setup alone, and its next number and next tokens are at most 2,097,153. Anything else is dropped, as if the
-    /// link were empty. It takes no memory.
+    /// kernel. A Restore comes where nobody runs, its context is of its activity, its activity has its home here, its
+    /// context names activities of the setup alone, and its next number and next tokens are at most 2,097,153. Anything
+    /// else is dropped, as if the link were empty. It takes no memory.
     pub fn take(&mut self, site: &Site, parcel: Parcel) -> TileDid
         ensures { Does result self.new (tile_take site.now self.old (parcel_of parcel)) }
     {
         match parcel {
             Parcel::Data(packet) => self.take_data(site, packet),
             Parcel::Save(act) => self.save(act),
-            Parcel::Restore { context, .. } => self.restore(site, context),
+            Parcel::Restore { act, context, .. } => self.restore(site, act, context),
             _ => is_idle(IdleWhy::EmptyLink),
         }
     }
 
     /// The tile takes data. Data for its current activity arrives there where it fits and names activities of the setup
-    /// alone, and is dropped else, as if the link were empty; any other data bounces to the kernel. It takes no memory.
+    /// alone, and is dropped else, as if the link were empty. Data for another activity bounces to the kernel. A read or
+    /// a write is for none, and is dropped. It takes no memory.
     pub fn take_data(&mut self, site: &Site, packet: Packet) -> TileDid
         ensures { Does result self.new (take_data site.now self.old packet) }
     {
         if !self.is_for(&packet) {
-            return says(Said::Bounced(packet.id()), to_kernel(Parcel::Data(packet)));
+            return bounced(packet);
         }
         match &mut self.current {
             None => unreachable!(),

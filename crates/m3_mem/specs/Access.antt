@@ -2,7 +2,7 @@
 use Rattle.std.specs.Prelude.{ℕ, ◌+◌, ◌≤◌, List, length}
 use Rattle.m3_base.specs.declared.command.Answer.{Answer}
 use Rattle.m3_base.specs.declared.packet.Packet.{Packet}
-use Rattle.m3_base.specs.Land.{bytes_at, written_at}
+use Rattle.m3_base.specs.Ideal.Landing.{bytes_at, written_at}
 
 -- a read or a write whose bytes lie inside
 abbrev pub CanServe : List ℕ → Packet → Type 0

@@ -1,7 +1,7 @@
 //! The memory tile's bytes.
 
 ghost use Rattle.std.specs.Prelude.{◌≡◌, ◌+◌, ◌≤◌, length, replicate, IfOk};
-ghost use Rattle.m3_base.specs.Land.{bytes_at, written_at};
+ghost use Rattle.m3_base.specs.Ideal.Landing.{bytes_at, written_at};
 ghost use Rattle.m3_mem.specs.Access.{CanServe, answer_of, after_access};
 
 use m3_base::command::Answer;

@@ -1,6 +1,6 @@
 -- Results of readings.
 use Rattle.std.proofs.Common.{◌≡◌, ℕ, Result, Ok, Err, refl, ap, inl, inr, ◌⊎◌}
-use Rattle.m3_wire.specs.Reading.{Fault, Bad, ◌>>=◌}
+use Rattle.m3_wire.specs.ByteReader.{Fault, Bad, ◌>>=◌}
 
 abbrev pub ok : {A : Type 0} → A → Result A Fault
 ok x = Ok x

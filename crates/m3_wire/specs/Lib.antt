@@ -1,6 +1,6 @@
-pub mod Reading
 pub mod Grammar
 pub mod Headers
 pub mod Packets
 pub mod Refusals
-pub mod Formats
+pub mod Decoders
+pub mod ByteReader

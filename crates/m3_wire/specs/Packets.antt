@@ -2,12 +2,12 @@
 use Rattle.std.specs.Prelude.{◌≡◌, ℕ, ◌-◌, ◌==◌, nat_le, ◌&&◌, if◌then◌else◌, List, [], ◌∷◌, ◌++◌, length, slice_index, min, replicate, ⊤}
 use Rattle.byteorder.specs.Endian.{little_bytes}
 use Rattle.m3_base.specs.declared.command.Answer.{Answer}
-use Rattle.m3_base.specs.declared.command.Refusal.{Refusal}
 use Rattle.m3_base.specs.declared.ids.FlightId.{FlightId}
 use Rattle.m3_base.specs.declared.packet.Fresh.{Fresh}
 use Rattle.m3_base.specs.declared.packet.Packet.{Packet}
 use Rattle.m3_base.specs.declared.packet.Perm.{Perm}
-use Rattle.m3_base.specs.Flight.{kernel}
+use Rattle.m3_base.specs.Ideal.Flights.{kernel}
+use Rattle.m3_base.specs.RefusalCodes.{refusal_code}
 use Rattle.m3_wire.specs.declared.refusal.Part.{Part}
 use Rattle.m3_wire.specs.Headers.{Within, IsAct, IsGrant, IsCount, IsLabel, FitsHeader, header_bytes, header_part}
 
@@ -54,18 +54,6 @@ FitsPacket (Packet.Write id grant place payload) = IsOfAct id × IsGrant grant �
 FitsPacket (Packet.Answer id answer) = IsOfAct id × FitsAnswer answer
 FitsPacket (Packet.Install id to ep fresh) = IsOfKernel id × IsAct to × IsEp ep × FitsFresh fresh
 FitsPacket (Packet.Close id to ep grant) = IsOfKernel id × IsAct to × IsEp ep × IsGrant grant
-
-abbrev pub refusal_code : Refusal → ℕ
-refusal_code Refusal.NoEndpoint = 1
-refusal_code Refusal.NoCredits = 2
-refusal_code Refusal.TooLarge = 3
-refusal_code Refusal.Revoked = 4
-refusal_code Refusal.Full = 5
-refusal_code Refusal.OutOfRange = 6
-refusal_code Refusal.NoPermission = 7
-refusal_code Refusal.NoReplyWanted = 8
-refusal_code Refusal.NoSuchToken = 9
-refusal_code Refusal.BadReplyEndpoint = 10
 
 abbrev pub perm_code : Perm → ℕ
 perm_code Perm.R = 1

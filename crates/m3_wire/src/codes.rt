@@ -1,7 +1,7 @@
 //! Bytes that stand for one of several things.
 
 ghost use Rattle.std.specs.Prelude.{◌≡◌};
-ghost use Rattle.m3_wire.specs.Formats.{kind_of, answer_form_of, record_form_of, perm_of, code_of_refusal};
+ghost use Rattle.m3_wire.specs.Decoders.{kind_of, answer_form_of, record_form_of, perm_of, code_of_refusal};
 
 use m3_base::command::Refusal;
 use m3_base::packet::Perm;

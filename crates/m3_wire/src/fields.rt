@@ -1,17 +1,15 @@
 //! Fields that several packets have.
 
 ghost use Rattle.std.specs.Prelude.{◌≡◌, ◌≤◌, IfOk};
-ghost use Rattle.m3_wire.specs.Reading.{Gives, Reads};
-ghost use Rattle.m3_wire.specs.Formats.{act, ep, grant, count, label, place, most_from, act_id, kernel_id, counted};
+ghost use Rattle.m3_wire.specs.ByteReader.{Gives, Reads};
+ghost use Rattle.m3_wire.specs.Decoders.{act, ep, grant, count, label, place, most_from, act_id, kernel_id, length_prefixed};
 
 use crate::input::Input;
 use crate::refusal::{Fault, ReadError};
 use m3_base::ids::{ActId, EpId, FlightId, GrantId};
+use m3_base::limits::{KERNEL, MOST_GRANTS, MOST_MEMORY};
 use m3_base::payload::Payload;
 use std::alloc::Global;
-
-/// No place in memory is above this.
-pub const MOST_MEMORY: u32 = 1_048_576;
 
 impl<'a> Input<'a> {
     pub fn act(&mut self) -> Result<ActId, Fault>
@@ -31,7 +29,7 @@ impl<'a> Input<'a> {
     pub fn grant(&mut self) -> Result<GrantId, Fault>
         ensures { Gives result self.new.rest.now (grant self.old.rest.now) }
     {
-        let number = self.number(4, 1, 4096)?;
+        let number = self.number(4, 1, MOST_GRANTS as u64)?;
         Ok(GrantId::new(number as u16))
     }
 
@@ -58,7 +56,7 @@ impl<'a> Input<'a> {
     }
 
     /// The name of an activity's flight.
-    #[tactic(auto, unfolding(crate::specs::Reading::pair, crate::specs::Reading::mapped))]
+    #[tactic(auto, unfolding(crate::specs::ByteReader::pair, crate::specs::ByteReader::mapped))]
     pub fn act_id(&mut self) -> Result<FlightId, Fault>
         ensures { Gives result self.new.rest.now (act_id self.old.rest.now) }
     {
@@ -68,18 +66,21 @@ impl<'a> Input<'a> {
     }
 
     /// The name of a flight of the kernel, of which its number alone is spelled.
-    #[tactic(auto, unfolding(crate::specs::Reading::mapped))]
+    #[tactic(auto, unfolding(crate::specs::ByteReader::mapped))]
     pub fn kernel_id(&mut self) -> Result<FlightId, Fault>
         ensures { Gives result self.new.rest.now (kernel_id self.old.rest.now) }
     {
         let number = self.count()?;
-        Ok(FlightId { issuer: 64, number })
+        Ok(FlightId {
+            issuer: KERNEL,
+            number,
+        })
     }
 
     /// At most `most` bytes behind their number.
-    #[tactic(auto, unfolding(crate::specs::Reading::pair, crate::specs::Reading::mapped))]
+    #[tactic(auto, unfolding(crate::specs::ByteReader::pair, crate::specs::ByteReader::mapped))]
     pub fn counted(&mut self, alloc: Global, most: u16) -> Result<Payload, ReadError>
-        ensures { Reads result self.new.rest.now (counted most self.old.rest.now) }
+        ensures { Reads result self.new.rest.now (length_prefixed most self.old.rest.now) }
     {
         let len = self.number(2, 0, most as u64)?;
         self.payload(alloc, len as usize)

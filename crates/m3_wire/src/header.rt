@@ -1,16 +1,17 @@
 //! Headers: 28 bytes.
 
 ghost use Rattle.std.specs.Prelude.{◌≡◌, ◌++◌, List, ℕ, IfOk, IfErr};
-ghost use Rattle.m3_wire.specs.Reading.{Gives};
+ghost use Rattle.m3_wire.specs.ByteReader.{Gives};
 ghost use Rattle.m3_wire.specs.Grammar.{IsFirst, Refuses, IsRead, TakesNone};
 ghost use Rattle.m3_wire.specs.Headers.{FitsHeader, IsHeader, header_bytes, part_in_header};
-ghost use Rattle.m3_wire.specs.Formats.{header};
+ghost use Rattle.m3_wire.specs.Decoders.{header};
 ghost use Rattle.m3_wire.specs.Refusals.{refusal_of};
 ghost use Rattle.m3_base.specs.declared.message.Header.{Header};
 
 use crate::input::Input;
 use crate::refusal::{Fault, WireRefusal, bad_at, header_part};
 use crate::spelling::{u16_bytes, u32_bytes, u64_bytes};
+use m3_base::limits::{MOST_GRANTS, MOST_MESSAGE, NO_REPLY};
 use m3_base::message::Header;
 
 /// The bytes of a header whose fields are within their ranges.
@@ -32,7 +33,7 @@ pub fn encode_header(h: &Header) -> [u8; 28]
 
 impl<'a> Input<'a> {
     /// A header.
-    #[tactic(auto, unfolding(crate::specs::Reading::pair, crate::specs::Reading::mapped))]
+    #[tactic(auto, unfolding(crate::specs::ByteReader::pair, crate::specs::ByteReader::mapped))]
     pub fn header(&mut self) -> Result<Header, Fault>
         ensures { Gives result self.new.rest.now (header self.old.rest.now) }
     {
@@ -40,10 +41,14 @@ impl<'a> Input<'a> {
         let reply_ep = self.reply_ep(flags)?;
         let sender = self.act()?;
         let lane = self.small(0, 0)?;
-        let length = self.number(2, 0, 512)?;
+        let length = self.number(2, 0, MOST_MESSAGE as u64)?;
         let _ = self.number(2, 0, 0)?;
-        let send = self.number(4, 1, 4096)?;
-        let (least, most) = if reply_ep == 255 { (0, 0) } else { (1, 4096) };
+        let send = self.number(4, 1, MOST_GRANTS as u64)?;
+        let (least, most) = if reply_ep == NO_REPLY {
+            (0, 0)
+        } else {
+            (1, MOST_GRANTS as u64)
+        };
         let reply = self.number(4, least, most)?;
         let number = self.count()?;
         let label = self.label()?;

@@ -1,13 +1,14 @@
 //! Bytes that are read from the front.
 
 ghost use Rattle.std.specs.Prelude.{◌≡◌, ◌<◌, ◌≤◌, ◌^◌, ◌+◌, ◌*◌, drop, length, IfOk};
-ghost use Rattle.m3_wire.specs.Reading.{Gives, Reads, goes, number, coded, byte, some_bytes};
+ghost use Rattle.m3_wire.specs.ByteReader.{Gives, Reads, is_digit_within, number, coded, byte, some_bytes};
 ghost use Rattle.m3_wire.specs.Headers.{is_reply_ep};
-ghost use Rattle.m3_wire.specs.Formats.{small};
+ghost use Rattle.m3_wire.specs.Decoders.{small};
 
 use crate::codes::Code;
 use crate::refusal::{Fault, ReadError};
 use byteorder::{ByteOrder, LittleEndian};
+use m3_base::limits::NO_REPLY;
 use m3_base::payload::Payload;
 use std::alloc::Global;
 
@@ -19,7 +20,7 @@ pub struct Input<'a> {
 
 impl<'a> Input<'a> {
     /// What the first byte stands for.
-    #[tactic(auto, unfolding(crate::specs::Reading::coded))]
+    #[tactic(auto, unfolding(crate::specs::ByteReader::coded))]
     pub fn coded<X: Code>(&mut self) -> Result<X, Fault>
         ensures { Gives result self.new.rest.now (coded X.of_byte self.old.rest.now) }
     {
@@ -36,7 +37,7 @@ impl<'a> Input<'a> {
     }
 
     /// A number of one byte.
-    #[tactic(auto, unfolding(crate::specs::Reading::coded))]
+    #[tactic(auto, unfolding(crate::specs::ByteReader::coded))]
     pub fn small(&mut self, low: u8, high: u8) -> Result<u8, Fault>
         ensures value { Gives result self.new.rest.now (small low high self.old.rest.now) }
         ensures range { IfOk result (λ n. (low ≤ n) × (n ≤ high)) }
@@ -55,14 +56,14 @@ impl<'a> Input<'a> {
     }
 
     /// 255 for none, or, where the flags aren't those of a reply, an endpoint.
-    #[tactic(auto, unfolding(crate::specs::Reading::coded))]
+    #[tactic(auto, unfolding(crate::specs::ByteReader::coded))]
     pub fn reply_ep(&mut self, flags: u8) -> Result<u8, Fault>
         ensures { Gives result self.new.rest.now (byte (is_reply_ep flags) self.old.rest.now) }
     {
         match self.rest {
             [] => Err(Fault::Short),
             [ep, rest @ ..] => {
-                if *ep == 255 || (flags != 1 && *ep <= 15) {
+                if *ep == NO_REPLY || (flags != 1 && *ep <= 15) {
                     self.rest = rest;
                     Ok(*ep)
                 } else {
@@ -89,7 +90,7 @@ impl<'a> Input<'a> {
     }
 
     /// So many bytes as they stand.
-    #[tactic(auto, unfolding(crate::specs::Reading::some_bytes))]
+    #[tactic(auto, unfolding(crate::specs::ByteReader::some_bytes))]
     pub fn payload(&mut self, alloc: Global, len: usize) -> Result<Payload, ReadError>
         ensures { Reads result self.new.rest.now (some_bytes len self.old.rest.now) }
     {
@@ -157,7 +158,7 @@ fn with_byte(value: u128, scale: u128, byte: u8) -> u128
 /// Whether a number of the range begins with bytes that make this value, where the next byte counts `scale`.
 fn goes(low: u64, high: u64, value: u128, scale: u128) -> bool
     requires { value + scale < 2 ^ 80 }
-    ensures { result ≡ goes low high value scale }
+    ensures { result ≡ is_digit_within low high value scale }
 {
     value <= high as u128 && (low as u128 <= value || value + scale <= high as u128)
 }

@@ -14,6 +14,3 @@ pub use header::{decode_header, encode_header};
 pub use packet::decode_packet;
 pub use refusal::WireRefusal;
 pub use spelling::encode_packet;
-
-#[cfg(test)]
-mod tests;

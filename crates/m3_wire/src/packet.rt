@@ -1,17 +1,17 @@
 //! Packets: a byte for the kind, and its fields.
 
 ghost use Rattle.std.specs.Prelude.{◌≡◌, ◌<◌, ◌≤◌, ◌++◌, List, ℕ, length, replicate, IfOk, IfErr};
-ghost use Rattle.m3_wire.specs.Reading.{Gives, Reads};
+ghost use Rattle.m3_wire.specs.ByteReader.{Gives, Reads};
 ghost use Rattle.m3_wire.specs.Grammar.{IsFirst, Refuses, IsRead};
 ghost use Rattle.m3_wire.specs.Packets.{IsPacket, packet_part};
-ghost use Rattle.m3_wire.specs.Formats.{message, credit, read, write, answered, install, close, packet, most_from};
+ghost use Rattle.m3_wire.specs.Decoders.{message, credit, read, write, answered_packet, install, close, packet, most_from};
 ghost use Rattle.m3_wire.specs.Refusals.{IsRefusal};
 ghost use Rattle.m3_base.specs.declared.packet.Packet.{Packet};
 
 use crate::codes::Kind;
-use crate::fields::MOST_MEMORY;
 use crate::input::Input;
 use crate::refusal::{Fault, Part, ReadError, WireRefusal, bad_at, header_part};
+use m3_base::limits::{MOST_BYTES, MOST_MEMORY};
 use m3_base::message::Message;
 use m3_base::packet::Packet;
 use m3_base::payload::Payload;
@@ -22,7 +22,7 @@ fn most_from(place: u32) -> u16
     requires { place ≤ 1048576 }
     ensures { result ≡ most_from place }
 {
-    (MOST_MEMORY - place).min(4096) as u16
+    (MOST_MEMORY - place).min(MOST_BYTES as u32) as u16
 }
 
 fn zeros(alloc: Global, len: usize) -> Result<Payload, AllocError>
@@ -34,7 +34,7 @@ fn zeros(alloc: Global, len: usize) -> Result<Payload, AllocError>
 }
 
 impl<'a> Input<'a> {
-    #[tactic(auto, unfolding(crate::specs::Reading::pair, crate::specs::Reading::mapped))]
+    #[tactic(auto, unfolding(crate::specs::ByteReader::pair, crate::specs::ByteReader::mapped))]
     fn message(&mut self, alloc: Global) -> Result<Packet, ReadError>
         ensures { Reads result self.new.rest.now (message self.old.rest.now) }
     {
@@ -51,7 +51,7 @@ impl<'a> Input<'a> {
         })
     }
 
-    #[tactic(auto, unfolding(crate::specs::Reading::pair, crate::specs::Reading::mapped))]
+    #[tactic(auto, unfolding(crate::specs::ByteReader::pair, crate::specs::ByteReader::mapped))]
     fn credit(&mut self) -> Result<Packet, Fault>
         ensures { Gives result self.new.rest.now (credit self.old.rest.now) }
     {
@@ -61,7 +61,7 @@ impl<'a> Input<'a> {
         Ok(Packet::Credit { id, to, grant })
     }
 
-    #[tactic(auto, unfolding(crate::specs::Reading::pair, crate::specs::Reading::mapped))]
+    #[tactic(auto, unfolding(crate::specs::ByteReader::pair, crate::specs::ByteReader::mapped))]
     fn read(&mut self, alloc: Global) -> Result<Packet, ReadError>
         ensures { Reads result self.new.rest.now (read self.old.rest.now) }
     {
@@ -78,7 +78,7 @@ impl<'a> Input<'a> {
         })
     }
 
-    #[tactic(auto, unfolding(crate::specs::Reading::pair, crate::specs::Reading::mapped))]
+    #[tactic(auto, unfolding(crate::specs::ByteReader::pair, crate::specs::ByteReader::mapped))]
     fn write(&mut self, alloc: Global) -> Result<Packet, ReadError>
         ensures { Reads result self.new.rest.now (write self.old.rest.now) }
     {
@@ -94,16 +94,16 @@ impl<'a> Input<'a> {
         })
     }
 
-    #[tactic(auto, unfolding(crate::specs::Reading::pair, crate::specs::Reading::mapped))]
+    #[tactic(auto, unfolding(crate::specs::ByteReader::pair, crate::specs::ByteReader::mapped))]
     fn answered(&mut self, alloc: Global) -> Result<Packet, ReadError>
-        ensures { Reads result self.new.rest.now (answered self.old.rest.now) }
+        ensures { Reads result self.new.rest.now (answered_packet self.old.rest.now) }
     {
         let id = self.act_id()?;
         let answer = self.answer(alloc)?;
         Ok(Packet::Answer { id, answer })
     }
 
-    #[tactic(auto, unfolding(crate::specs::Reading::pair, crate::specs::Reading::mapped))]
+    #[tactic(auto, unfolding(crate::specs::ByteReader::pair, crate::specs::ByteReader::mapped))]
     fn install(&mut self) -> Result<Packet, Fault>
         ensures { Gives result self.new.rest.now (install self.old.rest.now) }
     {
@@ -114,7 +114,7 @@ impl<'a> Input<'a> {
         Ok(Packet::Install { id, to, ep, fresh })
     }
 
-    #[tactic(auto, unfolding(crate::specs::Reading::pair, crate::specs::Reading::mapped))]
+    #[tactic(auto, unfolding(crate::specs::ByteReader::pair, crate::specs::ByteReader::mapped))]
     fn close(&mut self) -> Result<Packet, Fault>
         ensures { Gives result self.new.rest.now (close self.old.rest.now) }
     {
@@ -126,7 +126,7 @@ impl<'a> Input<'a> {
     }
 
     /// A packet.
-    #[tactic(auto, unfolding(crate::specs::Reading::pair, crate::specs::Reading::mapped))]
+    #[tactic(auto, unfolding(crate::specs::ByteReader::pair, crate::specs::ByteReader::mapped))]
     fn packet(&mut self, alloc: Global) -> Result<Packet, ReadError>
         ensures { Reads result self.new.rest.now (packet self.old.rest.now) }
     {

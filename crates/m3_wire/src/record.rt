@@ -1,21 +1,21 @@
 //! Answers and records, as packets carry them.
 
 ghost use Rattle.std.specs.Prelude.{◌≡◌};
-ghost use Rattle.m3_wire.specs.Reading.{Gives, Reads};
-ghost use Rattle.m3_wire.specs.Formats.{answer, fresh, fresh_by};
+ghost use Rattle.m3_wire.specs.ByteReader.{Gives, Reads};
+ghost use Rattle.m3_wire.specs.Decoders.{answer, fresh, fresh_by};
 ghost use Rattle.m3_wire.specs.declared.codes.RecordForm.TheVariants as RecordForm;
 
 use crate::codes::{AnswerForm, RecordForm};
-use crate::fields::MOST_MEMORY;
 use crate::input::Input;
 use crate::refusal::{Fault, ReadError};
 use m3_base::command::{Answer, Refusal};
+use m3_base::limits::{MOST_BYTES, MOST_CREDITS, MOST_MEMORY, MOST_MESSAGE, MOST_SLOTS};
 use m3_base::packet::{Fresh, Perm};
 use std::alloc::Global;
 
 impl<'a> Input<'a> {
     /// An answer.
-    #[tactic(auto, unfolding(crate::specs::Reading::pair, crate::specs::Reading::mapped))]
+    #[tactic(auto, unfolding(crate::specs::ByteReader::pair, crate::specs::ByteReader::mapped))]
     pub fn answer(&mut self, alloc: Global) -> Result<Answer, ReadError>
         ensures { Reads result self.new.rest.now (answer self.old.rest.now) }
     {
@@ -25,7 +25,7 @@ impl<'a> Input<'a> {
             AnswerForm::Replied => Ok(Answer::Replied),
             AnswerForm::Written => Ok(Answer::Written),
             AnswerForm::Bytes => {
-                let bytes = self.counted(alloc, 4096)?;
+                let bytes = self.counted(alloc, MOST_BYTES)?;
                 Ok(Answer::Bytes(bytes))
             }
             AnswerForm::Refused => {
@@ -36,7 +36,7 @@ impl<'a> Input<'a> {
     }
 
     /// A record.
-    #[tactic(auto, unfolding(crate::specs::Reading::pair, crate::specs::Reading::mapped))]
+    #[tactic(auto, unfolding(crate::specs::ByteReader::pair, crate::specs::ByteReader::mapped))]
     pub fn fresh(&mut self) -> Result<Fresh, Fault>
         ensures { Gives result self.new.rest.now (fresh self.old.rest.now) }
     {
@@ -48,7 +48,7 @@ impl<'a> Input<'a> {
         }
     }
 
-    #[tactic(auto, unfolding(crate::specs::Reading::pair, crate::specs::Reading::mapped))]
+    #[tactic(auto, unfolding(crate::specs::ByteReader::pair, crate::specs::ByteReader::mapped))]
     fn send_record(&mut self) -> Result<Fresh, Fault>
         ensures { Gives result self.new.rest.now (fresh_by RecordForm.Send self.old.rest.now) }
     {
@@ -57,8 +57,8 @@ impl<'a> Input<'a> {
         let to_ep = self.ep()?;
         let to_grant = self.grant()?;
         let label = self.label()?;
-        let size = self.number(2, 1, 512)?;
-        let limit = self.small(1, 32)?;
+        let size = self.number(2, 1, MOST_MESSAGE as u64)?;
+        let limit = self.small(1, MOST_CREDITS)?;
         Ok(Fresh::Send {
             grant,
             to,
@@ -70,13 +70,13 @@ impl<'a> Input<'a> {
         })
     }
 
-    #[tactic(auto, unfolding(crate::specs::Reading::pair, crate::specs::Reading::mapped))]
+    #[tactic(auto, unfolding(crate::specs::ByteReader::pair, crate::specs::ByteReader::mapped))]
     fn receive_record(&mut self) -> Result<Fresh, Fault>
         ensures { Gives result self.new.rest.now (fresh_by RecordForm.Receive self.old.rest.now) }
     {
         let grant = self.grant()?;
-        let slots = self.small(1, 32)?;
-        let size = self.number(2, 1, 512)?;
+        let slots = self.small(1, MOST_SLOTS)?;
+        let size = self.number(2, 1, MOST_MESSAGE as u64)?;
         Ok(Fresh::Receive {
             grant,
             slots,
@@ -85,7 +85,7 @@ impl<'a> Input<'a> {
     }
 
     // The range lies inside the largest memory and isn't empty.
-    #[tactic(auto, unfolding(crate::specs::Reading::pair, crate::specs::Reading::mapped))]
+    #[tactic(auto, unfolding(crate::specs::ByteReader::pair, crate::specs::ByteReader::mapped))]
     fn memory_record(&mut self) -> Result<Fresh, Fault>
         ensures { Gives result self.new.rest.now (fresh_by RecordForm.Memory self.old.rest.now) }
     {

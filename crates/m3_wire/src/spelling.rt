@@ -5,11 +5,11 @@ ghost use Rattle.byteorder.specs.Endian.{little_bytes};
 ghost use Rattle.m3_base.specs.declared.packet.Fresh.TheVariants as Fresh;
 ghost use Rattle.m3_base.specs.declared.packet.Packet.TheVariants as Packet;
 ghost use Rattle.m3_wire.specs.Headers.{FitsHeader, header_bytes};
-ghost use Rattle.m3_wire.specs.Packets.{FitsAnswer, FitsPacket, id_bytes, counted_bytes, refusal_code, perm_code, answer_bytes, fresh_bytes, packet_bytes};
+ghost use Rattle.m3_wire.specs.Packets.{FitsAnswer, FitsPacket, id_bytes, counted_bytes, perm_code, answer_bytes, fresh_bytes, packet_bytes};
 
 use crate::header::encode_header;
 use byteorder::{ByteOrder, LittleEndian};
-use m3_base::command::{Answer, Refusal};
+use m3_base::command::Answer;
 use m3_base::ids::{ActId, EpId, FlightId, GrantId};
 use m3_base::message::Message;
 use m3_base::packet::{Fresh, Packet, Perm};
@@ -109,23 +109,6 @@ fn put_counted(out: &mut Vec<u8>, bytes: &[u8]) -> Result<(), AllocError>
     put_bytes(out, bytes)
 }
 
-fn refusal_code(why: Refusal) -> u8
-    ensures { result ≡ refusal_code why }
-{
-    match why {
-        Refusal::NoEndpoint => 1,
-        Refusal::NoCredits => 2,
-        Refusal::TooLarge => 3,
-        Refusal::Revoked => 4,
-        Refusal::Full => 5,
-        Refusal::OutOfRange => 6,
-        Refusal::NoPermission => 7,
-        Refusal::NoReplyWanted => 8,
-        Refusal::NoSuchToken => 9,
-        Refusal::BadReplyEndpoint => 10,
-    }
-}
-
 fn perm_code(perm: Perm) -> u8
     ensures { result ≡ perm_code perm }
 {
@@ -150,7 +133,7 @@ fn put_answer(out: &mut Vec<u8>, answer: &Answer) -> Result<(), AllocError>
         }
         Answer::Refused(why) => {
             put_u8(out, 4)?;
-            put_u8(out, refusal_code(*why))
+            put_u8(out, why.code())
         }
     }
 }

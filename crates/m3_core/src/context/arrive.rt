@@ -2,14 +2,14 @@
 
 ghost use Rattle.std.specs.Prelude.{◌≡◌, ℕ, ◌==◌, true, false, None, Some, IfSome, IsTrue, slice_index_or};
 ghost use Rattle.std.specs.List.{position};
-ghost use Rattle.m3_base.specs.Context.{Flying as FlyingValue, Free, Context as ContextValue, endpoint, with_endpoint};
-ghost use Rattle.m3_base.specs.Land.{land, land_refusal, message_id, answered, has_send, sends_by, with_credit, flies_at, flying_at, frees, has_live, closed_at};
-ghost use Rattle.m3_base.specs.Arrive.{arrive, message_arrives, answer_arrives, close_arrives, freed_context};
-ghost use Rattle.m3_base.specs.Fits.{fits, is_message, fits_message, fits_answer, takes_credit};
-ghost use Rattle.m3_base.specs.Steps.{number_of};
-ghost use Rattle.m3_core.specs.Slots.{joined_if};
-ghost use Rattle.m3_core.specs.Places.{IsFlyingPlaceOf, IsSendPlaceOf};
-ghost use Rattle.m3_core.specs.Arriving.{arrived_as, arrived_by};
+ghost use Rattle.m3_base.specs.Ideal.Context.{Flying as FlyingValue, Free, Context as ContextValue, endpoint, with_endpoint};
+ghost use Rattle.m3_base.specs.Ideal.Landing.{land, land_refusal, message_id, context_after_answer, has_send, sends_by, with_credit, flies_at, flying_at, freed_grant, has_live, closed_at};
+ghost use Rattle.m3_base.specs.Ideal.Arrival.{arrive, message_arrives, answer_arrives, close_arrives, freed_context};
+ghost use Rattle.m3_base.specs.Ideal.Acceptance.{fits, is_message, fits_message, fits_answer, takes_credit};
+ghost use Rattle.m3_base.specs.Ideal.Step.{number_of};
+ghost use Rattle.m3_core.specs.EndpointStep.{joined_if};
+ghost use Rattle.m3_core.specs.Positions.{IsFlyingPlaceOf, IsSendPlaceOf};
+ghost use Rattle.m3_core.specs.ArrivalView.{arrived_as, arrived_by};
 
 use crate::arrived::Arrived;
 use crate::context::Context;
@@ -115,7 +115,7 @@ impl Context {
     /// The flying command of this number has this answer, and flies no more. It gives the command's endpoint.
     fn settle(&mut self, number: u32, answer: &Answer) -> EpId
         requires { fits_answer self.old answer.now (flying_at number self.old.flying) ≡ true }
-        ensures { IfSome (flying_at number self.old.flying) (λ f. (result ≡ f.ep) × (self.new ≡ answered f answer.now self.old)) }
+        ensures { IfSome (flying_at number self.old.flying) (λ f. (result ≡ f.ep) × (self.new ≡ context_after_answer f answer.now self.old)) }
     {
         let Some(place) = flying_place(&self.flying, number) else {
             unreachable!()
@@ -128,7 +128,7 @@ impl Context {
 
     /// Frees an endpoint whose record is closing, where none of its commands flies, and gives the record's grant.
     fn free_if_closing(&mut self, ep: EpId) -> Option<GrantId>
-        ensures closed { result ≡ frees ep self.old }
+        ensures closed { result ≡ freed_grant ep self.old }
         ensures context { self.new ≡ freed_context self.old ep result }
     {
         if self.flies_at(ep) {
@@ -178,7 +178,7 @@ fn grant_of(fresh: &Fresh) -> GrantId
 }
 
 /// The place of the flying command of this number.
-#[tactic(auto, using(crate::proofs::Places::flying_place))]
+#[tactic(auto, using(crate::proofs::Positions::flying_place))]
 pub fn flying_place(flying: &[Flying], number: u32) -> Option<usize>
     ensures { IsFlyingPlaceOf flying.now number result }
 {
@@ -192,7 +192,7 @@ fn flying_position(flying: &[Flying], number: u32) -> Option<usize>
 }
 
 /// The place of the endpoint of this send grant.
-#[tactic(auto, using(crate::proofs::Places::is_send_place))]
+#[tactic(auto, using(crate::proofs::Positions::is_send_place))]
 pub fn send_place(slots: &[Slot], send: u32) -> Option<usize>
     ensures { IsSendPlaceOf slots.now send result }
 {

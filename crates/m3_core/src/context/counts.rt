@@ -1,11 +1,11 @@
 //! The credits of send grants, in one context.
 
 ghost use Rattle.std.specs.Prelude.{◌≡◌, ℕ, ◌≤◌, ◌*◌, length, option_map};
-ghost use Rattle.m3_base.specs.Sums.{total};
-ghost use Rattle.m3_base.specs.Credit.{held_at, queued_at};
-ghost use Rattle.m3_base.specs.Fits.{send_of};
-ghost use Rattle.m3_core.specs.Places.{held_in};
-ghost use Rattle.m3_endpoint.specs.Counts.{Adds};
+ghost use Rattle.m3_base.specs.Lists.Counting.{total};
+ghost use Rattle.m3_base.specs.Ideal.Credits.{held_at, queued_at};
+ghost use Rattle.m3_base.specs.Ideal.Acceptance.{send_of};
+ghost use Rattle.m3_core.specs.Positions.{held_in};
+ghost use Rattle.m3_endpoint.specs.Counters.{Adds};
 
 use crate::context::Context;
 use crate::context::arrive::send_place;

@@ -1,8 +1,8 @@
 //! Which packets a context can meet.
 
 ghost use Rattle.std.specs.Prelude.{◌≡◌, ℕ, ◌==◌, ◌&&◌, nat_lt};
-ghost use Rattle.m3_base.specs.Land.{flying_at};
-ghost use Rattle.m3_base.specs.Fits.{fits, is_reply_place, is_header, is_message, is_form, takes_credit, fits_message, is_land_refusal, is_answer_for, is_returned, fits_answer};
+ghost use Rattle.m3_base.specs.Ideal.Landing.{flying_at};
+ghost use Rattle.m3_base.specs.Ideal.Acceptance.{fits, is_reply_place, is_header, is_message, is_form, takes_credit, fits_message, is_land_refusal, is_answer_for, is_returned, fits_answer};
 ghost use Rattle.m3_core.specs.FlyingView.{kind_of};
 
 use crate::context::Context;
@@ -10,11 +10,12 @@ use crate::context::arrive::{flying_place, send_place};
 use crate::flying::Kind;
 use m3_base::command::{Answer, Refusal};
 use m3_base::ids::{ActId, EpId, FlightId, GrantId};
+use m3_base::limits::{
+    ENDPOINTS, KERNEL, MOST_BYTES, MOST_CREDITS, MOST_GRANTS, MOST_MEMORY, MOST_MESSAGE,
+    MOST_SLOTS, NO_REPLY,
+};
 use m3_base::message::{Header, Message};
 use m3_base::packet::{Fresh, Packet};
-
-/// The issuer that stands for the kernel.
-const KERNEL: u8 = 64;
 
 impl Context {
     /// Whether a packet fits: it is for this activity and isn't for the memory; its numbers are in their ranges, and a
@@ -110,10 +111,10 @@ fn is_kernels(id: &FlightId) -> bool
 fn is_reply_place(ep: u8, grant: u32) -> bool
     ensures { result ≡ is_reply_place ep grant }
 {
-    if ep == 255 {
+    if ep == NO_REPLY {
         grant == 0
     } else {
-        ep < 16 && grant >= 1 && grant <= 4096
+        (ep as usize) < ENDPOINTS && grant >= 1 && grant <= MOST_GRANTS as u32
     }
 }
 
@@ -121,12 +122,12 @@ fn is_header(header: &Header) -> bool
     ensures { result ≡ is_header header.now }
 {
     header.flags <= 1
-        && (header.flags == 0 || header.reply_ep == 255)
+        && (header.flags == 0 || header.reply_ep == NO_REPLY)
         && is_reply_place(header.reply_ep, header.reply)
         && header.lane == 0
-        && header.length <= 512
+        && header.length <= MOST_MESSAGE
         && header.send >= 1
-        && header.send <= 4096
+        && header.send <= MOST_GRANTS as u32
         && header.number > 0
 }
 
@@ -141,15 +142,15 @@ fn is_form(fresh: &Fresh) -> bool
 {
     match fresh {
         Fresh::Send { size, limit, .. } => *size >= 1
-            && *size <= 512
+            && *size <= MOST_MESSAGE
             && *limit >= 1
-            && *limit <= 32,
+            && *limit <= MOST_CREDITS,
         Fresh::Receive { slots, size, .. } => *slots >= 1
-            && *slots <= 32
+            && *slots <= MOST_SLOTS
             && *size >= 1
-            && *size <= 512,
+            && *size <= MOST_MESSAGE,
         Fresh::Memory { start, length, .. } => *length > 0
-            && *start as u64 + *length as u64 <= 1048576,
+            && *start as u64 + *length as u64 <= MOST_MEMORY as u64,
     }
 }
 
@@ -174,7 +175,7 @@ fn is_answer_for(kind: Kind, answer: &Answer) -> bool
         (Kind::Send, Answer::Refused(why)) => is_land_refusal(*why),
         (Kind::Reply, Answer::Replied) => true,
         (Kind::Reply, Answer::Refused(why)) => is_land_refusal(*why),
-        (Kind::Read, Answer::Bytes(bytes)) => bytes.len() <= 4096,
+        (Kind::Read, Answer::Bytes(bytes)) => bytes.len() <= MOST_BYTES as usize,
         (Kind::Write, Answer::Written) => true,
         _ => false,
     }

@@ -1,23 +1,21 @@
 //! Commands where they are issued.
 
 ghost use Rattle.std.specs.Prelude.{◌≡◌, ℕ, ◌<◌, ◌≤◌, true, false, None, Some, length, replicate, IsTrue};
-ghost use Rattle.m3_base.specs.Context.{endpoint};
-ghost use Rattle.m3_base.specs.Issue.{issue, is_busy, flies_always};
-ghost use Rattle.m3_core.specs.Slots.{HasToken, oldest_at};
-ghost use Rattle.m3_core.specs.Conditions.{HasTokenFor, IsBufferFor};
-ghost use Rattle.m3_core.specs.Issuing.{issued_by, oldest, reply_place};
+ghost use Rattle.m3_base.specs.Ideal.Context.{endpoint};
+ghost use Rattle.m3_base.specs.Ideal.Issue.{issue, is_busy, flies_always};
+ghost use Rattle.m3_core.specs.EndpointStep.{HasToken, oldest_at};
+ghost use Rattle.m3_core.specs.Preconditions.{HasTokenFor, IsBufferFor};
+ghost use Rattle.m3_core.specs.IssueView.{issued_by, oldest, reply_place};
 
 use crate::context::Context;
 use crate::flying::Kind;
 use crate::issued::Issued;
 use m3_base::command::Command;
 use m3_base::ids::{EpId, FlightId, GrantId};
+use m3_base::limits::NO_REPLY;
 use m3_base::message::{Header, Message};
 use m3_base::packet::Packet;
 use m3_base::payload::Payload;
-
-/// What a header names for no reply endpoint.
-const NO_ENDPOINT: u8 = 255;
 
 /// A reply endpoint and its grant as a header has them, and whether the endpoint isn't a live receive record.
 #[derive(Clone, Copy, Debug, Drop)]
@@ -83,7 +81,7 @@ impl Context {
         }
     }
 
-    #[tactic(auto, using(crate::proofs::Refused::refused_reply))]
+    #[tactic(auto, using(crate::proofs::RefusedReply::refused_reply))]
     fn reply(&mut self, ep: EpId, token: u32, payload: Payload) -> Issued
         requires busy { is_busy self.old ≡ false }
         requires number { self.old.next < 4294967295 }
@@ -96,7 +94,7 @@ impl Context {
                 let id = self.next_id();
                 let header = Header {
                     flags: 1,
-                    reply_ep: NO_ENDPOINT,
+                    reply_ep: NO_REPLY,
                     sender: self.act,
                     lane: 0,
                     length: length as u16,
@@ -204,7 +202,7 @@ impl Context {
     {
         match reply {
             None => ReplyPlace {
-                ep: NO_ENDPOINT,
+                ep: NO_REPLY,
                 grant: 0,
                 is_bad: false,
             },

@@ -1,11 +1,12 @@
 //! One endpoint's part of each command.
 
 ghost use Rattle.std.specs.Prelude.{◌≡◌, ℕ, ◌<◌, ◌≤◌, true, false, IsOk, IfOk, option_copied};
-ghost use Rattle.m3_core.specs.Sound.{HasSender, HasReplyPlace};
-ghost use Rattle.m3_core.specs.Slots.{sent, unless_refused, send_refusal_at, target_of, less_unless, replying, fetching, acknowledging, accessing, changed_if, less_at, marking_at, after_fetch_at, freed_at, oldest_at, fetched_message_at, HasToken};
+ghost use Rattle.m3_core.specs.MessageInvariant.{HasSender, HasReplyPlace};
+ghost use Rattle.m3_core.specs.EndpointStep.{send_target, unless_refused, send_refusal_at, target_of, less_unless, reply_header, fetch_outcome, acknowledge_header, access_place, changed_if, less_at, marking_at, after_fetch_at, freed_at, oldest_at, fetched_message_at, HasToken};
 
 use crate::slot::{Place, Slot, Target};
 use m3_base::command::Refusal;
+use m3_base::limits::{MOST_BYTES, MOST_MESSAGE};
 use m3_base::message::{Header, Message};
 use m3_endpoint::endpoint::Record;
 use m3_endpoint::send::SendEp;
@@ -13,7 +14,7 @@ use m3_endpoint::send::SendEp;
 impl Slot {
     /// Takes a credit for a payload of this length.
     pub fn send(&mut self, bytes: usize, is_bad_reply: bool) -> Result<Target, Refusal>
-        ensures answer { result ≡ sent bytes is_bad_reply self.old }
+        ensures answer { result ≡ send_target bytes is_bad_reply self.old }
         ensures after { self.new ≡ changed_if result (less_at self.old) self.old }
         ensures range { IsOk result → bytes ≤ 512 }
     {
@@ -24,9 +25,9 @@ impl Slot {
     }
 
     /// Begins a reply of this length to the message of this token.
-    #[tactic(auto, using(crate::proofs::Sound::marking_sound, crate::proofs::Sound::reply_sound))]
+    #[tactic(auto, using(crate::proofs::MessageInvariant::marking_sound, crate::proofs::MessageInvariant::reply_sound))]
     pub fn begin_reply(&mut self, token: u32, bytes: usize) -> Result<Header, Refusal>
-        ensures answer { result ≡ replying token bytes self.old }
+        ensures answer { result ≡ reply_header token bytes self.old }
         ensures after { self.new ≡ changed_if result (marking_at true token self.old) self.old }
         ensures place { IfOk result HasReplyPlace }
         ensures range { IsOk result → bytes ≤ 512 }
@@ -38,17 +39,17 @@ impl Slot {
             return Err(Refusal::Revoked);
         }
         let _ = r.reply_header(token)?;
-        if bytes > 512 {
+        if bytes > MOST_MESSAGE as usize {
             return Err(Refusal::TooLarge);
         }
         r.begin_reply(token)
     }
 
     /// Fetches the oldest unread message.
-    #[tactic(auto, using(crate::proofs::Sound::fetched_sound))]
+    #[tactic(auto, using(crate::proofs::MessageInvariant::fetched_sound))]
     pub fn fetch(&mut self) -> Result<Option<u32>, Refusal>
         requires { HasToken self.old }
-        ensures answer { result ≡ fetching self.old }
+        ensures answer { result ≡ fetch_outcome self.old }
         ensures after { self.new ≡ changed_if result (after_fetch_at self.old) self.old }
     {
         let Record::Receive(r) = &mut self.occupant else {
@@ -61,9 +62,9 @@ impl Slot {
     }
 
     /// Frees the slot of the message of this token.
-    #[tactic(auto, using(crate::proofs::Sound::freed_sound, crate::proofs::Sound::header_sound))]
+    #[tactic(auto, using(crate::proofs::MessageInvariant::freed_sound, crate::proofs::MessageInvariant::header_sound))]
     pub fn acknowledge(&mut self, token: u32) -> Result<Header, Refusal>
-        ensures answer { result ≡ acknowledging token self.old }
+        ensures answer { result ≡ acknowledge_header token self.old }
         ensures after { self.new ≡ changed_if result (freed_at token self.old) self.old }
         ensures sender { IfOk result HasSender }
     {
@@ -78,7 +79,7 @@ impl Slot {
 
     /// The place of a read or write of `len` bytes at the offset `off`.
     pub fn access(&self, off: u32, len: usize, is_write: bool) -> Result<Place, Refusal>
-        ensures { result ≡ accessing off len is_write self.now }
+        ensures { result ≡ access_place off len is_write self.now }
     {
         let Record::Memory(r) = &self.occupant else {
             return Err(Refusal::NoEndpoint);
@@ -86,7 +87,7 @@ impl Slot {
         if r.closing() {
             return Err(Refusal::Revoked);
         }
-        if len > 4096 {
+        if len > MOST_BYTES as usize {
             return Err(Refusal::TooLarge);
         }
         let at = r.check(off, len as u32, is_write)?;

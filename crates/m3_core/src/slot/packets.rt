@@ -1,13 +1,13 @@
 //! One endpoint's part of what comes for it.
 
 ghost use Rattle.std.specs.Prelude.{◌≡◌, ℕ, ◌≤◌, true, false, IsTrue, option_map};
-ghost use Rattle.m3_base.specs.Land.{land_refusal, sends_by, more_at, settled};
-ghost use Rattle.m3_base.specs.Fits.{takes_back, is_returned, is_message};
-ghost use Rattle.m3_base.specs.Credit.{held_at, queued_at};
-ghost use Rattle.m3_endpoint.specs.Counts.{Adds};
-ghost use Rattle.m3_core.specs.Places.{send_at, held_in};
+ghost use Rattle.m3_base.specs.Ideal.Landing.{land_refusal, sends_by, more_at, endpoint_after_answer};
+ghost use Rattle.m3_base.specs.Ideal.Acceptance.{takes_back, is_returned, is_message};
+ghost use Rattle.m3_base.specs.Ideal.Credits.{held_at, queued_at};
+ghost use Rattle.m3_endpoint.specs.Counters.{Adds};
+ghost use Rattle.m3_core.specs.Positions.{send_at, held_in};
 ghost use Rattle.m3_core.specs.FlyingView.{kind_of};
-ghost use Rattle.m3_core.specs.Slots.{joined_if, replied_at};
+ghost use Rattle.m3_core.specs.EndpointStep.{joined_if, replied_at};
 
 use crate::flying::Kind;
 use crate::slot::Slot;
@@ -39,7 +39,7 @@ impl Slot {
     }
 
     /// The message joins the unread ones, unless it is refused.
-    #[tactic(auto, using(crate::proofs::Sound::joined_sound))]
+    #[tactic(auto, using(crate::proofs::MessageInvariant::joined_sound))]
     pub fn land(&mut self, grant: GrantId, message: Message) -> Option<Refusal>
         requires { is_message message ≡ true }
         ensures answer { result ≡ land_refusal grant message self.old }
@@ -91,7 +91,7 @@ impl Slot {
     /// A command of this endpoint ends with this answer.
     pub fn settle(&mut self, kind: Kind, token: u32, answer: &Answer)
         requires { IsTrue (is_returned (kind_of kind) answer.now) → IsTrue (takes_back self.old) }
-        ensures { self.new ≡ settled (kind_of kind) token answer.now self.old }
+        ensures { self.new ≡ endpoint_after_answer (kind_of kind) token answer.now self.old }
     {
         match (kind, answer) {
             (Kind::Send, Answer::Refused(_)) => self.give_credit(),
@@ -101,7 +101,7 @@ impl Slot {
         }
     }
 
-    #[tactic(auto, using(crate::proofs::Sound::replied_sound))]
+    #[tactic(auto, using(crate::proofs::MessageInvariant::replied_sound))]
     fn end_reply(&mut self, token: u32, landed: bool)
         ensures { self.new ≡ replied_at landed token self.old }
     {

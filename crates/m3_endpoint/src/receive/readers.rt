@@ -1,13 +1,13 @@
 //! Readers of a receive record.
 
 ghost use Rattle.std.specs.Prelude.{◌≡◌, ℕ, ◌<◌, ◌≤◌, ◌↔◌, ◌==◌, ◌||◌, not, IsTrue, IsSome, IfSome, Some, length, slice_get, option_map, option_copied};
-ghost use Rattle.m3_base.specs.Sums.{one, how_many};
-ghost use Rattle.m3_base.specs.Fits.{is_form};
-ghost use Rattle.m3_base.specs.Credit.{is_sent_by, is_owed};
-ghost use Rattle.m3_endpoint.specs.Counts.{Adds};
-ghost use Rattle.m3_endpoint.specs.Forms.{receive_form};
-ghost use Rattle.m3_endpoint.specs.Order.{is_smaller};
-ghost use Rattle.m3_endpoint.specs.Receive.{unread_at, token_in, message_at, unmarked_at, header_or_refusal, reply_header, marked_at, grant_in, size_in, closing_in, next_token_in, unread_count, fetched_count, token_at, message_in_order, queued_in};
+ghost use Rattle.m3_base.specs.Lists.Counting.{one, how_many};
+ghost use Rattle.m3_base.specs.Ideal.Acceptance.{is_form};
+ghost use Rattle.m3_base.specs.Ideal.Credits.{is_sent_by, is_owed};
+ghost use Rattle.m3_endpoint.specs.Counters.{Adds};
+ghost use Rattle.m3_endpoint.specs.RecordForms.{receive_form};
+ghost use Rattle.m3_endpoint.specs.TokenOrder.{is_smaller};
+ghost use Rattle.m3_endpoint.specs.ReceiveOps.{unread_at, token_in, message_at, unmarked_at, header_or_refusal, reply_header, marked_at, grant_in, size_in, closing_in, next_token_in, unread_count, fetched_count, token_at, message_in_order, queued_in};
 
 use crate::counts::raise;
 use crate::fetched::{FetchedMessage, place_of};
@@ -15,6 +15,7 @@ use crate::receive::ReceiveEp;
 use circular_buffer::HeapCircularBuffer;
 use m3_base::command::Refusal;
 use m3_base::ids::GrantId;
+use m3_base::limits::NO_REPLY;
 use m3_base::message::{Header, Message};
 use m3_base::packet::Fresh;
 
@@ -170,7 +171,7 @@ impl ReceiveEp {
 
     /// How many messages that were sent through this grant, and aren't replies, are unread, or fetched and not being
     /// replied to.
-    #[tactic(auto, using(crate::proofs::Queued::counted))]
+    #[tactic(auto, using(crate::proofs::CountIsStd::counted))]
     pub fn queued(&self, grant: GrantId) -> u32
         requires { IsSome self.now }
         ensures count { Some result ≡ option_map (queued_in grant) self.now }
@@ -253,7 +254,7 @@ fn count_fetched(fetched: &[FetchedMessage], counts: &mut [u32])
 fn wants_none(header: &Header) -> bool
     ensures { result ≡ (not (header.now.flags == 0) || (header.now.reply_ep == 255)) }
 {
-    header.flags != 0 || header.reply_ep == 255
+    header.flags != 0 || header.reply_ep == NO_REPLY
 }
 
 /// The token of the message at this place.

@@ -1,12 +1,12 @@
 //! The kernel's data as a setup opens it.
 
 ghost use Rattle.std.specs.Prelude.{◌≡◌, None, [], ◌∷◌, ◌++◌, replicate, IfOk, OnOk, OnErr};
-ghost use Rattle.m3_base.specs.Setup.{facts_of};
-ghost use Rattle.m3_kernel.specs.Sites.{site_of};
-ghost use Rattle.m3_kernel.specs.Kernel.{seat_of};
-ghost use Rattle.m3_kernel.specs.Berths.{empty_berth};
-ghost use Rattle.m3_kernel.specs.States.{kernel_in, at_site, IsKept};
-ghost use Rattle.m3_kernel.specs.Readers.{new_kernel, with_new_seat, HasPlaceFor};
+ghost use Rattle.m3_base.specs.Setup.Rules.{facts_of};
+ghost use Rattle.m3_model.specs.Config.FromSetup.{site_of};
+ghost use Rattle.m3_model.specs.Kernel.Step.{entry_of};
+ghost use Rattle.m3_kernel.specs.LookupTables.{empty_berth};
+ghost use Rattle.m3_kernel.specs.KernelStateView.{kernel_in, at_site, IsKept};
+ghost use Rattle.m3_kernel.specs.KernelQueries.{new_kernel, with_new_seat, HasPlaceFor};
 
 use crate::berth::Berth;
 use crate::seat::Seat;
@@ -71,7 +71,7 @@ impl State {
         context: Option<Context>,
     ) -> Result<(), AllocError>
         requires kept { IsKept self.old }
-        requires fresh { seat_of act (kernel_in self.old) ≡ None }
+        requires fresh { entry_of act (kernel_in self.old) ≡ None }
         requires place { HasPlaceFor (at_site self.old) act context }
         ensures kept { IsKept self.new }
         ensures ok { OnOk result (at_site self.new ≡ with_new_seat act context (at_site self.old)) }

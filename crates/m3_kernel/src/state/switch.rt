@@ -1,9 +1,9 @@
 //! Switches.
 
 ghost use Rattle.std.specs.Prelude.{◌≡◌};
-ghost use Rattle.m3_kernel.specs.Kernel.{seat_of, switch};
-ghost use Rattle.m3_kernel.specs.States.{kernel_in, IsKept};
-ghost use Rattle.m3_kernel.specs.Doing.{Does, Judges, IsSwitch, LeaverAt};
+ghost use Rattle.m3_model.specs.Kernel.Step.{entry_of, switch};
+ghost use Rattle.m3_kernel.specs.KernelStateView.{kernel_in, IsKept};
+ghost use Rattle.m3_kernel.specs.StepContracts.{Does, Judges, IsSwitch, LeaverAt};
 
 use crate::done::{Done, says};
 use crate::seat::Place;
@@ -64,7 +64,7 @@ impl State {
         requires allowed { IsSwitch self.old tile act pair }
         ensures kept { IsKept self.new }
         ensures site { self.new.site ≡ self.old.site }
-        ensures does { Does result (kernel_in self.new) (switch self.old.site (kernel_in self.old) tile (seat_of act (kernel_in self.old))) }
+        ensures does { Does result (kernel_in self.new) (switch self.old.site (kernel_in self.old) tile (entry_of act (kernel_in self.old))) }
     {
         let Switch { leaves, comes } = pair;
         let leaver = self.seats[leaves].act();
@@ -82,7 +82,7 @@ impl State {
         requires { IsKept self.old }
         ensures kept { IsKept self.new }
         ensures site { self.new.site ≡ self.old.site }
-        ensures does { Does result (kernel_in self.new) (switch self.old.site (kernel_in self.old) tile (seat_of act (kernel_in self.old))) }
+        ensures does { Does result (kernel_in self.new) (switch self.old.site (kernel_in self.old) tile (entry_of act (kernel_in self.old))) }
     {
         match self.judge(tile, act) {
             Err(why) => says(Said::No(why), None),

@@ -1,11 +1,11 @@
 //! Parcels that the kernel takes.
 
 ghost use Rattle.std.specs.Prelude.{◌≡◌, IfOk, IfErr, OnErr, length, Some};
-ghost use Rattle.m3_base.specs.State.{grant_in};
-ghost use Rattle.m3_kernel.specs.Parcels.{parcel_of};
-ghost use Rattle.m3_kernel.specs.Kernel.{seat_of, kernel_take, take_data, take_saved, take_yield, take_closed};
-ghost use Rattle.m3_kernel.specs.States.{kernel_in, IsKept, CanRoute};
-ghost use Rattle.m3_kernel.specs.Doing.{Does, GoesTo, IsFor, IsSeatOf, IsLeavingAt};
+ghost use Rattle.m3_base.specs.Ideal.State.{grant_in};
+ghost use Rattle.m3_kernel.specs.ParcelView.{parcel_of};
+ghost use Rattle.m3_model.specs.Kernel.Step.{entry_of, kernel_take, take_data, take_saved, take_yield, take_closed};
+ghost use Rattle.m3_kernel.specs.KernelStateView.{kernel_in, IsKept, CanRoute};
+ghost use Rattle.m3_kernel.specs.StepContracts.{Does, GoesTo, IsFor, IsSeatOf, IsLeavingAt};
 
 use crate::came::target_of;
 use crate::done::{Done, dropped, says};
@@ -69,7 +69,7 @@ impl State {
         requires { IsKept self.old }
         ensures kept { IsKept self.new }
         ensures site { self.new.site ≡ self.old.site }
-        ensures does { Does result (kernel_in self.new) (take_saved self.old.site (kernel_in self.old) context waiting ended (seat_of context.act (kernel_in self.old))) }
+        ensures does { Does result (kernel_in self.new) (take_saved self.old.site (kernel_in self.old) context waiting ended (entry_of context.act (kernel_in self.old))) }
     {
         let Some(at) = self.place(context.act().number()) else {
             return dropped();
@@ -87,7 +87,7 @@ impl State {
         requires leaves { IsLeavingAt (kernel_in self.old) at }
         ensures kept { IsKept self.new }
         ensures site { self.new.site ≡ self.old.site }
-        ensures does { Does result (kernel_in self.new) (take_saved self.old.site (kernel_in self.old) context waiting ended (seat_of context.act (kernel_in self.old))) }
+        ensures does { Does result (kernel_in self.new) (take_saved self.old.site (kernel_in self.old) context waiting ended (entry_of context.act (kernel_in self.old))) }
     {
         let act = context.act();
         let tile = self.site.tile_of(act.number());
@@ -100,7 +100,7 @@ impl State {
         requires { IsKept self.old }
         ensures kept { IsKept self.new }
         ensures site { self.new.site ≡ self.old.site }
-        ensures does { Does result (kernel_in self.new) (take_yield self.old.site (kernel_in self.old) act (seat_of act (kernel_in self.old))) }
+        ensures does { Does result (kernel_in self.new) (take_yield self.old.site (kernel_in self.old) act (entry_of act (kernel_in self.old))) }
     {
         let Some(at) = self.place(act.number()) else {
             return dropped();
@@ -145,11 +145,16 @@ impl State {
                 Err((packet, error)) => Err((Parcel::Data(packet), error)),
             },
             Parcel::Saved {
+                act,
                 context,
                 waiting,
                 ended,
-                ..
-            } => Ok(self.take_saved(context, waiting, ended)),
+            } => {
+                if context.act() != act {
+                    return Ok(dropped());
+                }
+                Ok(self.take_saved(context, waiting, ended))
+            }
             Parcel::Yield(act) => Ok(self.take_yield(act)),
             Parcel::Closed(grant) => Ok(self.take_closed(grant)),
             Parcel::Save(_) => Ok(dropped()),

@@ -1,12 +1,12 @@
 //! Packets that are held, and are applied to who is away.
 
 ghost use Rattle.std.specs.Prelude.{◌≡◌, IfOk, OnErr, OnOk};
-ghost use Rattle.m3_kernel.specs.Kernel.{kernel_tend};
-ghost use Rattle.m3_kernel.specs.States.{kernel_in, IsKept};
-ghost use Rattle.m3_kernel.specs.Doing.{Does, IsSeatOf, IsAwayAt, IsThere, BackIs, CanAnswer, IsTending, AnswersBy, SendsBack};
-ghost use Rattle.m3_kernel.specs.Came.{AtMostOne};
-ghost use Rattle.m3_kernel.specs.Parts.{closed_out};
-ghost use Rattle.m3_kernel.specs.Parcels.{out_of};
+ghost use Rattle.m3_model.specs.Kernel.Step.{kernel_tend};
+ghost use Rattle.m3_kernel.specs.KernelStateView.{kernel_in, IsKept};
+ghost use Rattle.m3_kernel.specs.StepContracts.{Does, IsSeatOf, IsAwayAt, IsThere, BackIs, CanAnswer, IsTending, AnswersBy, SendsBack};
+ghost use Rattle.m3_kernel.specs.ArrivalView.{AtMostOne};
+ghost use Rattle.m3_model.specs.LocalStep.{closed_out};
+ghost use Rattle.m3_kernel.specs.ParcelView.{out_of};
 
 use crate::away::heard_of;
 use crate::came::{Came, answers_to};

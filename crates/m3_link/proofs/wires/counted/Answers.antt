@@ -1,6 +1,6 @@
 use Rattle.std.proofs.Common.{◌+◌, ◌++◌, ◌∙◌, min, ap}
-use Rattle.m3_link.specs.Links.{data_in}
-use Rattle.m3_link.proofs.Counting.{no_data, all_counted}
+use Rattle.m3_link.specs.LinkOps.{data_in}
+use Rattle.m3_link.proofs.CountData.{no_data, all_counted}
 use Rattle.m3_link.proofs.wires.counted.Goals as goal
 
 pub loop-parcel-preserved : goal.loop-parcel-preserved

@@ -1,5 +1,5 @@
 use Rattle.std.proofs.Common.{◌≡◌, ◌+◌, ◌++◌, ◌≤◌, min}
-use Rattle.m3_link.specs.Links.{data_in}
+use Rattle.m3_link.specs.LinkOps.{data_in}
 use Rattle.m3_link.proofs.wires.counted.Given as goal
 
 abbrev pub invariant-loop-parcel : goal.invariant-loop-parcel

@@ -1,5 +1,5 @@
 use Rattle.std.proofs.Common.{◌≡◌, length, replicate, []}
-use Rattle.m3_link.specs.Wires.{lists_in}
+use Rattle.m3_link.specs.LinksView.{lists_in}
 use Rattle.m3_link.proofs.wires.no_parcels.Given as goal
 
 abbrev pub invariant-loop : goal.invariant-loop

@@ -1,7 +1,7 @@
 use Rattle.std.proofs.Common.{◌≤◌, ◌∙◌, min, sym, ap, zero-add, arith}
-use Rattle.m3_link.specs.Wires.{lists_in}
-use Rattle.m3_link.specs.Links.{data_on}
-use Rattle.m3_link.proofs.Counting.{link_counted, links_counted}
+use Rattle.m3_link.specs.LinksView.{lists_in}
+use Rattle.m3_link.specs.LinkOps.{data_on}
+use Rattle.m3_link.proofs.CountData.{link_counted, links_counted}
 use Rattle.m3_link.proofs.wires.total.Goals as goal
 
 pub loop-link-init : goal.loop-link-init

@@ -1,6 +1,6 @@
 use Rattle.std.proofs.Common.{◌≡◌, ◌+◌, ◌≤◌, drop, min}
-use Rattle.m3_link.specs.Wires.{lists_in}
-use Rattle.m3_link.specs.Links.{data_on}
+use Rattle.m3_link.specs.LinksView.{lists_in}
+use Rattle.m3_link.specs.LinkOps.{data_on}
 use Rattle.m3_link.proofs.wires.total.Given as goal
 
 abbrev pub invariant-loop-link : goal.invariant-loop-link

@@ -1,11 +1,11 @@
 use Rattle.std.proofs.Common.{◌≡◌, ℕ, ◌+◌, ◌-◌, ◌<◌, ◌≤◌, ◌++◌, ◌∙◌, drop, length, arith, option_to_list, append-nil, ap, sym, Vec}
 use Rattle.std.specs.declared.alloc.Global.{Global}
 use Rattle.m3_base.specs.declared.journal.AuditLine.{AuditLine}
-use Rattle.m3_base.specs.State.{grant_in}
-use Rattle.m3_kernel.specs.Parcels.{parcels_of}
-use Rattle.m3_kernel.specs.Seats.{seats_of}
-use Rattle.m3_machine.specs.Closing.{contexts_of, packets_of, live_line, tally_lines}
-use Rattle.m3_machine.proofs.Crediting.{lines_more, line_joined, tally_is, lines_end, no_line}
+use Rattle.m3_base.specs.Ideal.State.{grant_in}
+use Rattle.m3_kernel.specs.ParcelView.{parcels_of}
+use Rattle.m3_kernel.specs.ActivityView.{seats_of}
+use Rattle.m3_machine.specs.AuditView.{contexts_of, packets_of, live_line, tally_lines}
+use Rattle.m3_machine.proofs.CreditLines.{lines_more, line_joined, tally_is, lines_end, no_line}
 use Rattle.m3_machine.proofs.audit.credit_lines.Goals as goal
 use Rattle.m3_machine.proofs.audit.credit_lines.Goals.{in-Some+in_ok-push, in_default}
 

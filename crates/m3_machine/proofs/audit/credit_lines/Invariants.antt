@@ -1,5 +1,5 @@
 use Rattle.std.proofs.Common.{◌≡◌, ◌++◌, ◌-◌, drop}
-use Rattle.m3_machine.specs.Closing.{tally_lines}
+use Rattle.m3_machine.specs.AuditView.{tally_lines}
 use Rattle.m3_machine.proofs.audit.credit_lines.Given as goal
 
 abbrev pub invariant-loop-number : goal.invariant-loop-number

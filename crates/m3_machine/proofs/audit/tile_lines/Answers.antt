@@ -1,9 +1,9 @@
 use Rattle.std.proofs.Common.{◌≡◌, ◌<◌, ◌∷◌, ◌++◌, [], ◌∙◌, ℕ, sym, ap, subst, length, map, get_or, None, Some, arith}
 use Rattle.std.specs.Option.{option_copied}
 use Rattle.m3_base.specs.declared.journal.AuditLine.{AuditLine}
-use Rattle.m3_machine.specs.At.{current_act}
-use Rattle.m3_machine.specs.Tile.{act_in}
-use Rattle.m3_machine.proofs.Closing.{line_added, act_read}
+use Rattle.m3_model.specs.Abstraction.{current_act}
+use Rattle.m3_model.specs.Tile.Step.{act_in}
+use Rattle.m3_machine.proofs.TileLines.{line_added, act_read}
 use Rattle.m3_machine.proofs.audit.tile_lines.Goals as goal
 use Rattle.m3_machine.proofs.audit.tile_lines.Goals.{in-None, in-Some}
 

@@ -1,6 +1,6 @@
 use Rattle.std.proofs.Common.{◌≡◌, ◌-◌, ◌++◌, map}
-use Rattle.m3_machine.specs.At.{current_act}
-use Rattle.m3_machine.specs.Next.{tile_lines, tile_lines_from}
+use Rattle.m3_model.specs.Abstraction.{current_act}
+use Rattle.m3_trace.specs.DriverOfMachine.{tile_lines, tile_lines_from}
 use Rattle.m3_machine.proofs.audit.tile_lines.Given as goal
 
 abbrev pub invariant-loop-number : goal.invariant-loop-number

@@ -1,7 +1,7 @@
 use Rattle.std.proofs.Common.{◌≡◌, drop}
-use Rattle.m3_kernel.specs.Seats.{seats_of}
-use Rattle.m3_machine.specs.Next.{least_tend}
-use Rattle.m3_machine.proofs.Tending.{with_left}
+use Rattle.m3_kernel.specs.ActivityView.{seats_of}
+use Rattle.m3_trace.specs.DriverOfMachine.{least_tend}
+use Rattle.m3_machine.proofs.LeastTend.{with_left}
 use Rattle.m3_machine.proofs.next.least_tend.Given as goal
 
 abbrev pub invariant-loop-seat : goal.invariant-loop-seat

@@ -1,6 +1,6 @@
 use Rattle.std.proofs.Common.{◌≡◌, ◌∙◌, sym, ap, Some, None}
-use Rattle.m3_machine.specs.Next.{next_take_at, next_take_on}
-use Rattle.m3_machine.proofs.Upward.{first_from, on_first, passes, comes, none_left, is_nothing, is_something}
+use Rattle.m3_trace.specs.DriverOfMachine.{next_take_at, next_take_on}
+use Rattle.m3_machine.proofs.FirstFrom.{first_from, on_first, passes, comes, none_left, is_nothing, is_something}
 use Rattle.m3_machine.proofs.next.next_take.Goals as goal
 
 pub loop-to-init : goal.loop-to-init

@@ -1,6 +1,6 @@
 use Rattle.std.proofs.Common.{◌≡◌}
-use Rattle.m3_machine.specs.Next.{next_take_at, next_take_on}
-use Rattle.m3_machine.proofs.Upward.{first_from}
+use Rattle.m3_trace.specs.DriverOfMachine.{next_take_at, next_take_on}
+use Rattle.m3_machine.proofs.FirstFrom.{first_from}
 use Rattle.m3_machine.proofs.next.next_take.Given as goal
 
 abbrev pub invariant-loop-to : goal.invariant-loop-to

@@ -1,8 +1,8 @@
 use Rattle.std.proofs.Common.{◌≡◌, ◌∙◌, sym, ap, subst, true, false, Some, ℕ}
 use Rattle.m3_base.specs.declared.event.Event.{Event}
-use Rattle.m3_link.specs.Links.{place, list_at, is_nil}
-use Rattle.m3_machine.specs.Next.{take_on}
-use Rattle.m3_machine.proofs.Upward.{at_first, passes, comes, none_left, take_none, take_some}
+use Rattle.m3_link.specs.LinkOps.{place, list_at, is_nil}
+use Rattle.m3_trace.specs.DriverOfMachine.{take_on}
+use Rattle.m3_machine.proofs.FirstFrom.{at_first, passes, comes, none_left, take_none, take_some}
 use Rattle.m3_machine.proofs.next.next_take_at.Goals as goal
 
 pub loop-from-init : goal.loop-from-init

@@ -1,6 +1,6 @@
 use Rattle.std.proofs.Common.{◌≡◌}
-use Rattle.m3_machine.specs.Next.{next_take_at, take_on}
-use Rattle.m3_machine.proofs.Upward.{first_from}
+use Rattle.m3_trace.specs.DriverOfMachine.{next_take_at, take_on}
+use Rattle.m3_machine.proofs.FirstFrom.{first_from}
 use Rattle.m3_machine.proofs.next.next_take_at.Given as goal
 
 abbrev pub invariant-loop-from : goal.invariant-loop-from

@@ -1,8 +1,8 @@
 use Rattle.std.proofs.Common.{◌+◌, ◌∷◌, sym, subst, List, drop, ◌∙◌, ap}
 use Rattle.std.proofs.lemmas.List.{drop_more}
 use Rattle.m3_base.specs.declared.setup_line.SetupLine.{SetupLine}
-use Rattle.m3_machine.specs.Progress.{Progress}
-use Rattle.m3_machine.proofs.Contexts.{begins}
+use Rattle.m3_machine.specs.OpeningInvariant.{Progress}
+use Rattle.m3_machine.proofs.ContextTable.{begins}
 use Rattle.m3_machine.proofs.opening.contexts.Goals as goal
 
 pub loop-line-init : goal.loop-line-init

@@ -1,5 +1,5 @@
 use Rattle.std.proofs.Common.{drop}
-use Rattle.m3_machine.specs.Progress.{Progress}
+use Rattle.m3_machine.specs.OpeningInvariant.{Progress}
 use Rattle.m3_machine.proofs.opening.contexts.Given as goal
 
 abbrev pub invariant-loop-line : goal.invariant-loop-line

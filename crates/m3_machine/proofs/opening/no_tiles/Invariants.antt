@@ -1,5 +1,5 @@
 use Rattle.std.proofs.Common.{◌≡◌, length}
-use Rattle.m3_machine.proofs.Opened.{tiles_to}
+use Rattle.m3_machine.proofs.OpenedParts.{tiles_to}
 use Rattle.m3_machine.proofs.opening.no_tiles.Given as goal
 
 abbrev pub invariant-loop-number : goal.invariant-loop-number

@@ -1,7 +1,7 @@
 use Rattle.std.proofs.Common.{◌∷◌, sym, subst}
 use Rattle.m3_base.specs.declared.setup_line.SetupLine.{SetupLine}
-use Rattle.m3_machine.specs.Progress.{Progress}
-use Rattle.m3_machine.proofs.Contexts.{act_step}
+use Rattle.m3_machine.specs.OpeningInvariant.{Progress}
+use Rattle.m3_machine.proofs.ContextTable.{act_step}
 use Rattle.m3_machine.proofs.opening.read.Goals as goal
 
 pub returns-in_ok-declare-in-Act : goal.returns-in_ok-declare-in-Act

@@ -1,15 +1,16 @@
 use Rattle.std.proofs.Common.{◌≡◌, ◌<◌, ◌+◌, ℕ, ◌∷◌, None, length, get_or, set, drop, sym, ap, subst, refl, ◌∙◌, arith}
 use Rattle.std.specs.Prelude.{Option}
 use Rattle.std.proofs.lemmas.List.{length-map}
-use Rattle.m3_base.specs.Context.{Context}
-use Rattle.m3_kernel.specs.Parts.{Site, Tile}
-use Rattle.m3_kernel.specs.Homes.{value_of}
-use Rattle.m3_kernel.specs.Kernel.{seat_of}
-use Rattle.m3_kernel.specs.Readers.{with_new_seat, HasPlaceFor}
-use Rattle.m3_machine.specs.Machine.{empty_tile}
+use Rattle.m3_base.specs.Ideal.Context.{Context}
+use Rattle.m3_model.specs.Config.Site.{Site}
+use Rattle.m3_model.specs.Tile.State.{Tile}
+use Rattle.m3_kernel.specs.HomeTableView.{value_of}
+use Rattle.m3_model.specs.Kernel.Step.{entry_of}
+use Rattle.m3_kernel.specs.KernelQueries.{with_new_seat, HasPlaceFor}
+use Rattle.m3_model.specs.Machine.{empty_tile}
 use Rattle.m3_machine.specs.TileView.{seated_with}
-use Rattle.m3_machine.specs.Seated.{rests_with}
-use Rattle.m3_machine.proofs.Opened.{Seats, home_list, next_home, tile_there, context_there, is_fresh, has_place, seats_more, seats_begin}
+use Rattle.m3_machine.specs.OpenedParts.{rests_with}
+use Rattle.m3_machine.proofs.OpenedParts.{Seats, home_list, next_home, tile_there, context_there, is_fresh, has_place, seats_more, seats_begin}
 use Rattle.m3_machine.proofs.opening.seated.Goals as goal
 
 pub loop-at-init : goal.loop-at-init
@@ -27,7 +28,7 @@ seat-requires-clause-fresh c =
     let within : c.loop-at.at < length (home_list s) = let t = c.loop-at-test.true in omega (arith, t, all) in
     let so : Seats s k ts table (value_of y ∷ drop (c.loop-at.at + 1) (home_list s)) =
     next_home s k ts table c.homes.result.now c.loop-at.at y (c.homes.ensures ∙ ap (λ (h : Site). h.homes) (c.site-in-loop-at.ensures ∙ inv.site)) within c.index-homes-at.is inv in
-    ap (λ (a : ℕ). seat_of a k.kernel) c.act-in-loop-at.ensures ∙ is_fresh s k ts table (value_of y) (drop (c.loop-at.at + 1) (home_list s)) so
+    ap (λ (a : ℕ). entry_of a k.kernel) c.act-in-loop-at.ensures ∙ is_fresh s k ts table (value_of y) (drop (c.loop-at.at + 1) (home_list s)) so
 
 pub seat-requires-clause-place : goal.seat-requires-clause-place
 seat-requires-clause-place c =

@@ -1,5 +1,5 @@
 use Rattle.std.proofs.Common.{drop}
-use Rattle.m3_machine.proofs.Opened.{Seats, home_list}
+use Rattle.m3_machine.proofs.OpenedParts.{Seats, home_list}
 use Rattle.m3_machine.proofs.opening.seated.Given as goal
 
 abbrev pub invariant-loop-at : goal.invariant-loop-at

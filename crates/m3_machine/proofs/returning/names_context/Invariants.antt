@@ -1,6 +1,6 @@
 use Rattle.std.proofs.Common.{◌≡◌, ◌<◌, drop, length}
 use Rattle.std.specs.List.{list_all}
-use Rattle.m3_kernel.specs.Naming.{names_at}
+use Rattle.m3_model.specs.Config.KnownActivities.{names_at}
 use Rattle.m3_machine.proofs.returning.names_context.Given as goal
 
 abbrev pub invariant-loop-ep : goal.invariant-loop-ep

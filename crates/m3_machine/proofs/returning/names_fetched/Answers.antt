@@ -1,7 +1,7 @@
 use Rattle.std.proofs.Common.{◌≡◌, false, true, sym, ap, ◌∙◌}
 use Rattle.std.specs.Option.{option_copied}
-use Rattle.m3_kernel.specs.Naming.{is_home, is_from_home}
-use Rattle.m3_machine.proofs.Readers.{fetched_refused, fetched_passed}
+use Rattle.m3_model.specs.Config.KnownActivities.{is_home, is_from_home}
+use Rattle.m3_machine.proofs.AllByIndex.{fetched_refused, fetched_passed}
 use Rattle.m3_machine.proofs.returning.names_fetched.Goals as goal
 
 pub returns-then-not-declares : goal.returns-then-not-declares

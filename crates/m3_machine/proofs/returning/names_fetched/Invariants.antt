@@ -1,7 +1,7 @@
 use Rattle.std.proofs.Common.{◌≡◌, drop}
 use Rattle.std.specs.List.{list_all}
-use Rattle.m3_kernel.specs.Naming.{is_fetched_from_home}
-use Rattle.m3_machine.specs.Records.{fetched_of}
+use Rattle.m3_model.specs.Config.KnownActivities.{is_fetched_from_home}
+use Rattle.m3_machine.specs.ReceiveRecordView.{fetched_of}
 use Rattle.m3_machine.proofs.returning.names_fetched.Given as goal
 
 abbrev pub invariant-loop-i : goal.invariant-loop-i

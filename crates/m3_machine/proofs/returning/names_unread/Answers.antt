@@ -1,7 +1,7 @@
 use Rattle.std.proofs.Common.{◌≡◌, false, true, sym, ap, ◌∙◌}
 use Rattle.std.specs.Option.{option_copied}
-use Rattle.m3_kernel.specs.Naming.{is_home, is_from_home}
-use Rattle.m3_machine.proofs.Readers.{unread_refused, unread_passed}
+use Rattle.m3_model.specs.Config.KnownActivities.{is_home, is_from_home}
+use Rattle.m3_machine.proofs.AllByIndex.{unread_refused, unread_passed}
 use Rattle.m3_machine.proofs.returning.names_unread.Goals as goal
 
 pub returns-then-not-declares : goal.returns-then-not-declares

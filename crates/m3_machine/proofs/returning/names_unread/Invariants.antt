@@ -1,7 +1,7 @@
 use Rattle.std.proofs.Common.{◌≡◌, drop}
 use Rattle.std.specs.List.{list_all}
-use Rattle.m3_kernel.specs.Naming.{is_from_home}
-use Rattle.m3_machine.specs.Records.{unread_of}
+use Rattle.m3_model.specs.Config.KnownActivities.{is_from_home}
+use Rattle.m3_machine.specs.ReceiveRecordView.{unread_of}
 use Rattle.m3_machine.proofs.returning.names_unread.Given as goal
 
 abbrev pub invariant-loop-i : goal.invariant-loop-i

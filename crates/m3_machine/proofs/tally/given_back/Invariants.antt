@@ -1,5 +1,5 @@
 use Rattle.std.proofs.Common.{◌≡◌, drop}
-use Rattle.m3_base.specs.Land.{flying_at}
+use Rattle.m3_base.specs.Ideal.Landing.{flying_at}
 use Rattle.m3_machine.proofs.tally.given_back.Given as goal
 
 abbrev pub invariant-loop-flying : goal.invariant-loop-flying

@@ -1,8 +1,8 @@
 use Rattle.std.proofs.Common.{arith, refl}
 use Rattle.m3_wire.specs.Headers.{FitsHeader, header_bytes, part_in_header}
-use Rattle.m3_wire.specs.Formats.{header}
-use Rattle.m3_wire.proofs.Formats.{header_exact}
-use Rattle.m3_wire.proofs.Decoding.{first, refused, same, never_refused, takes_none}
+use Rattle.m3_wire.specs.Decoders.{header}
+use Rattle.m3_wire.proofs.HeaderDecoderExact.{header_exact}
+use Rattle.m3_wire.proofs.DecodeContracts.{first, refused, same, never_refused, takes_none}
 use Rattle.m3_wire.proofs.header.decode_header.Goals as goal
 
 pub returns-in-Ok-clause-found : goal.returns-in-Ok-clause-found

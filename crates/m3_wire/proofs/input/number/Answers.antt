@@ -1,5 +1,5 @@
 use Rattle.std.proofs.Common.{arith}
-use Rattle.m3_wire.proofs.Walking.{reads_fast}
+use Rattle.m3_wire.proofs.NumberByteLoop.{reads_fast}
 use Rattle.m3_wire.proofs.input.number.Goals as goal
 
 pub returns-then-whole-high-clause-value : goal.returns-then-whole-high-clause-value

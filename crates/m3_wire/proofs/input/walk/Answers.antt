@@ -1,5 +1,5 @@
 use Rattle.std.proofs.Common.{arith}
-use Rattle.m3_wire.proofs.Walking.{begins, scale_small, ends_short, ends_bad, more, in_range}
+use Rattle.m3_wire.proofs.NumberByteLoop.{begins, scale_small, ends_short, ends_bad, more, in_range}
 use Rattle.m3_wire.proofs.input.walk.Goals as goal
 
 pub loop-i-init : goal.loop-i-init

@@ -1,4 +1,4 @@
-use Rattle.m3_wire.proofs.Walking.{Walks}
+use Rattle.m3_wire.proofs.NumberByteLoop.{Walks}
 use Rattle.m3_wire.proofs.input.walk.Given as goal
 
 abbrev pub invariant-loop-i : goal.invariant-loop-i

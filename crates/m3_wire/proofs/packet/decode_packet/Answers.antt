@@ -1,8 +1,8 @@
 use Rattle.std.proofs.Common.{arith, length}
 use Rattle.m3_wire.specs.Packets.{FitsPacket, packet_bytes}
-use Rattle.m3_wire.specs.Formats.{packet}
-use Rattle.m3_wire.proofs.Carried.{packet_exact}
-use Rattle.m3_wire.proofs.Decoding.{first, lengths, taken_of, refused_or_none, read_or_none}
+use Rattle.m3_wire.specs.Decoders.{packet}
+use Rattle.m3_wire.proofs.PacketDecodersExact.{packet_exact}
+use Rattle.m3_wire.proofs.DecodeContracts.{first, lengths, taken_of, refused_or_none, read_or_none}
 use Rattle.m3_wire.proofs.packet.decode_packet.Goals as goal
 
 pub overflow_sub-result : goal.overflow_sub-result

@@ -1,4 +1,4 @@
-use Rattle.m3_wire.proofs.Joined.{behind3}
+use Rattle.m3_wire.proofs.Concat.{behind3}
 use Rattle.m3_wire.proofs.spelling.put_memory.Goals as goal
 
 pub returns : goal.returns

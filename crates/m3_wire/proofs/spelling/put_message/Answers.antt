@@ -1,4 +1,4 @@
-use Rattle.m3_wire.proofs.Joined.{behind2_same}
+use Rattle.m3_wire.proofs.Concat.{behind2_same}
 use Rattle.m3_wire.proofs.spelling.put_message.Goals as goal
 
 pub returns : goal.returns

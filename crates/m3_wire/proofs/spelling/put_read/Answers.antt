@@ -1,5 +1,5 @@
 use Rattle.std.proofs.Common.{sym}
-use Rattle.m3_wire.proofs.Joined.{behind4}
+use Rattle.m3_wire.proofs.Concat.{behind4}
 use Rattle.m3_wire.proofs.spelling.put_read.Goals as goal
 
 pub returns : goal.returns

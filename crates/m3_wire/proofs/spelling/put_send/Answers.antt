@@ -1,4 +1,4 @@
-use Rattle.m3_wire.proofs.Joined.{behind4}
+use Rattle.m3_wire.proofs.Concat.{behind4}
 use Rattle.m3_wire.proofs.spelling.put_send.Goals as goal
 
 pub returns : goal.returns

@@ -1,5 +1,5 @@
 use Rattle.std.proofs.Common.{rules}
-use Rattle.m3_core.proofs.Credits.{room_joined}
+use Rattle.m3_core.proofs.ReplyCreditFits.{room_joined}
 use Rattle.m3_core.proofs.context.Context.land.Goals as goal
 
 pub give-requires : goal.give-requires

@@ -1,6 +1,6 @@
-use Rattle.m3_base.specs.Sums.{total}
-use Rattle.m3_base.specs.Credit.{held_at, queued_at}
-use Rattle.m3_endpoint.proofs.Adding.{left_next, left_past}
+use Rattle.m3_base.specs.Lists.Counting.{total}
+use Rattle.m3_base.specs.Ideal.Credits.{held_at, queued_at}
+use Rattle.m3_endpoint.proofs.CounterSums.{left_next, left_past}
 use Rattle.m3_core.proofs.context.counts.count_slots.Goals as goal
 
 pub loop-slot-preserved : goal.loop-slot-preserved

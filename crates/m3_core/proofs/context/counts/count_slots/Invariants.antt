@@ -1,7 +1,7 @@
 use Rattle.std.proofs.Common.{drop}
-use Rattle.m3_base.specs.Sums.{total}
-use Rattle.m3_base.specs.Credit.{held_at, queued_at}
-use Rattle.m3_endpoint.proofs.Adding.{Left}
+use Rattle.m3_base.specs.Lists.Counting.{total}
+use Rattle.m3_base.specs.Ideal.Credits.{held_at, queued_at}
+use Rattle.m3_endpoint.proofs.CounterSums.{Left}
 use Rattle.m3_core.proofs.context.counts.count_slots.Given as goal
 
 abbrev pub invariant-loop-slot : goal.invariant-loop-slot

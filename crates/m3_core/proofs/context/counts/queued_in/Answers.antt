@@ -1,6 +1,6 @@
 use Rattle.std.proofs.Common.{arith}
-use Rattle.m3_base.specs.Credit.{queued_at}
-use Rattle.m3_core.proofs.Totals.{total_more}
+use Rattle.m3_base.specs.Ideal.Credits.{queued_at}
+use Rattle.m3_core.proofs.SumPush.{total_more}
 use Rattle.m3_core.proofs.context.counts.queued_in.Goals as goal
 
 pub loop-slot-preserved : goal.loop-slot-preserved

@@ -1,6 +1,6 @@
 use Rattle.std.proofs.Common.{◌≡◌, ◌≤◌, ◌*◌, take}
-use Rattle.m3_base.specs.Sums.{total}
-use Rattle.m3_base.specs.Credit.{queued_at}
+use Rattle.m3_base.specs.Lists.Counting.{total}
+use Rattle.m3_base.specs.Ideal.Credits.{queued_at}
 use Rattle.m3_core.proofs.context.counts.queued_in.Given as goal
 
 abbrev pub invariant-loop-slot : goal.invariant-loop-slot

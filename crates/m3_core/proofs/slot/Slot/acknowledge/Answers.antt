@@ -1,4 +1,4 @@
-use Rattle.m3_core.proofs.Sound.{acknowledged_sound, kept_sound}
+use Rattle.m3_core.proofs.MessageInvariant.{acknowledged_sound, kept_sound}
 use Rattle.m3_core.proofs.slot.Slot.acknowledge.Goals as goal
 
 pub invariant_of-self-2 : goal.invariant_of-self-2

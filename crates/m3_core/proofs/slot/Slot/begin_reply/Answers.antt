@@ -1,4 +1,4 @@
-use Rattle.m3_core.proofs.Sound.{marked_sound, kept_sound}
+use Rattle.m3_core.proofs.MessageInvariant.{marked_sound, kept_sound}
 use Rattle.m3_core.proofs.slot.Slot.begin_reply.Goals as goal
 
 pub invariant_of-self-2 : goal.invariant_of-self-2

@@ -1,6 +1,6 @@
 use Rattle.std.proofs.Common.{arith}
 use Rattle.std.proofs.lemmas.Grind.{common_steps}
-use Rattle.m3_endpoint.proofs.Order.{ordered_view, smaller_at, below_at}
+use Rattle.m3_endpoint.proofs.TokenOrder.{ordered_view, smaller_at, below_at}
 use Rattle.m3_endpoint.proofs.receive.ReceiveEp.fetched_token.Goals as goal
 
 pub returns-clause-smaller : goal.returns-clause-smaller

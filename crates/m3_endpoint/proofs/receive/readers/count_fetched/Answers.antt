@@ -1,9 +1,9 @@
 use Rattle.std.proofs.Common.{◌∷◌, ◌+◌, ap, sym, ◌∙◌, drop}
 use Rattle.std.proofs.lemmas.List.{drop_more}
 use Rattle.std.proofs.Math.ListN.{drop_of_length-le}
-use Rattle.m3_base.specs.Sums.{one, how_many}
-use Rattle.m3_base.specs.Credit.{is_owed}
-use Rattle.m3_endpoint.proofs.Adding.{left_more, left_none}
+use Rattle.m3_base.specs.Lists.Counting.{one, how_many}
+use Rattle.m3_base.specs.Ideal.Credits.{is_owed}
+use Rattle.m3_endpoint.proofs.CounterSums.{left_more, left_none}
 use Rattle.m3_endpoint.proofs.receive.readers.count_fetched.Goals as goal
 
 pub loop-message-init : goal.loop-message-init

@@ -1,7 +1,7 @@
 use Rattle.std.proofs.Common.{drop}
-use Rattle.m3_base.specs.Sums.{how_many}
-use Rattle.m3_base.specs.Credit.{is_owed}
-use Rattle.m3_endpoint.proofs.Adding.{Left}
+use Rattle.m3_base.specs.Lists.Counting.{how_many}
+use Rattle.m3_base.specs.Ideal.Credits.{is_owed}
+use Rattle.m3_endpoint.proofs.CounterSums.{Left}
 use Rattle.m3_endpoint.proofs.receive.readers.count_fetched.Given as goal
 
 abbrev pub invariant-loop-message : goal.invariant-loop-message

@@ -1,9 +1,8 @@
-use Rattle.std.proofs.Common.{◌≡◌, ℕ, ◌∷◌, ap, sym, subst, ◌∙◌, List}
+use Rattle.std.proofs.Common.{ap, sym, subst, ◌∙◌, List}
 use Rattle.m3_base.specs.declared.message.Message.{Message}
-use Rattle.m3_base.specs.Sums.{one, how_many}
-use Rattle.m3_base.specs.Credit.{is_sent_by}
-use Rattle.m3_endpoint.specs.Counts.{Adds}
-use Rattle.m3_endpoint.proofs.Adding.{Left, left_first, left_more, left_none}
+use Rattle.m3_base.specs.Lists.Counting.{one, how_many}
+use Rattle.m3_base.specs.Ideal.Credits.{is_sent_by}
+use Rattle.m3_endpoint.proofs.CounterSums.{Left, left_first, left_more, left_none}
 use Rattle.m3_endpoint.proofs.receive.readers.count_unread.Goals as goal
 
 pub loop-message-init : goal.loop-message-init

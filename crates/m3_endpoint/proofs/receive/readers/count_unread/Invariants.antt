@@ -1,6 +1,6 @@
-use Rattle.m3_base.specs.Sums.{how_many}
-use Rattle.m3_base.specs.Credit.{is_sent_by}
-use Rattle.m3_endpoint.proofs.Adding.{Left}
+use Rattle.m3_base.specs.Lists.Counting.{how_many}
+use Rattle.m3_base.specs.Ideal.Credits.{is_sent_by}
+use Rattle.m3_endpoint.proofs.CounterSums.{Left}
 use Rattle.m3_endpoint.proofs.receive.readers.count_unread.Given as goal
 
 abbrev pub invariant-loop-message : goal.invariant-loop-message

@@ -1,8 +1,8 @@
 use Rattle.std.proofs.Common.{subst}
-use Rattle.m3_base.specs.State.{grant_in}
-use Rattle.m3_grants.specs.Tree.{GrantTree}
-use Rattle.m3_grants.specs.Nodes.{Stands}
-use Rattle.m3_grants.proofs.Lookups.{stands_at}
+use Rattle.m3_base.specs.Ideal.State.{grant_in}
+use Rattle.m3_grants.specs.GrantTree.{GrantTree}
+use Rattle.m3_base.specs.Setup.GrantTable.{Stands}
+use Rattle.m3_base.proofs.GrantTableLookup.{stands_at}
 use Rattle.m3_grants.proofs.grants.Grants.get.Goals as goal
 
 pub returns : goal.returns

@@ -1,18 +1,13 @@
 use Rattle.std.proofs.Common.{◌≡◌, ◌+◌, drop, subst, ap, ◌∙◌, ◌∷◌, []}
 use Rattle.std.proofs.lemmas.List.{drop_all}
-use Rattle.m3_grants.proofs.Lookups.{tree_of}
-use Rattle.m3_grants.proofs.Opening.{SoFar, so_far_none, so_far_allows, so_far_next, so_far_all, drop_next}
+use Rattle.m3_grants.proofs.NodeLookup.{tree_of}
+use Rattle.m3_grants.proofs.FromSetup.{SoFar, so_far_none, so_far_next, so_far_all, drop_next}
 use Rattle.m3_grants.proofs.grants.Grants.new.Goals as goal
 
 pub loop-line-init : goal.loop-line-init
 loop-line-init c =
     let start : c.in_ok-grants.grants ≡ tree_of c.args.setup.now.memory [] = c.in_ok-grants.ensures ∙ ap (λ m. tree_of m []) c.memory.ensures in
-    so_far_none c.args.setup.now c.in_ok-grants.grants c.lines-lines.result.now start c.lines-lines.ensures.lines c.lines-lines.ensures.valid
-
-pub read-requires : goal.read-requires
-read-requires c =
-    let is : drop c.loop-line.line-index c.lines-lines.result.now ≡ c.line-item.result ∷ drop (c.loop-line.line-index + 1) c.lines-lines.result.now = drop_next c.lines-lines.result.now c.loop-line.line-index c.line-item.result c.loop-line-test.true c.line-item.is in
-    so_far_allows c.args.setup.now c.loop-line.grants c.line-item.result (drop (c.loop-line.line-index + 1) c.lines-lines.result.now) (subst (SoFar c.args.setup.now c.loop-line.grants) is c.loop-line.invariant)
+    so_far_none c.args.setup.now c.in_ok-grants.grants c.lines-lines.result.now start c.lines-lines.ensures.lines
 
 pub loop-line-preserved : goal.loop-line-preserved
 loop-line-preserved c =

@@ -1,5 +1,5 @@
 use Rattle.std.proofs.Common.{drop}
-use Rattle.m3_grants.proofs.Opening.{SoFar}
+use Rattle.m3_grants.proofs.FromSetup.{SoFar}
 use Rattle.m3_grants.proofs.grants.Grants.new.Given as goal
 
 abbrev pub invariant-loop-line : goal.invariant-loop-line

@@ -1,8 +1,8 @@
 use Rattle.std.proofs.Common.{◌≡◌, ◌∙◌, subst}
-use Rattle.m3_base.specs.Places.{least_closing}
-use Rattle.m3_grants.specs.Tree.{GrantTree, IsChildless}
-use Rattle.m3_grants.specs.Nodes.{grants_of}
-use Rattle.m3_grants.proofs.Lookups.{first_is, childless}
+use Rattle.m3_base.specs.Placement.Order.{least_closing}
+use Rattle.m3_grants.specs.GrantTree.{GrantTree, IsChildless}
+use Rattle.m3_base.specs.Setup.GrantTable.{grants_of}
+use Rattle.m3_grants.proofs.NodeLookup.{first_is, childless}
 use Rattle.m3_grants.proofs.grants.Grants.next_close.Goals as goal
 
 pub returns-clause-least : goal.returns-clause-least

@@ -1,10 +1,10 @@
 use Rattle.std.proofs.Common.{◌≡◌, ◌++◌, true, List, sym, ap, ◌∙◌, subst}
-use Rattle.m3_base.specs.Fits.{fits}
-use Rattle.m3_kernel.specs.Parts.{Heard}
-use Rattle.m3_kernel.specs.Parcels.{heard_in}
-use Rattle.m3_kernel.specs.Settled.{IsSettled, AreNotBoth}
-use Rattle.m3_kernel.specs.Came.{arrival_of}
-use Rattle.m3_kernel.proofs.Hearing.{not_both, settled_then}
+use Rattle.m3_base.specs.Ideal.Acceptance.{fits}
+use Rattle.m3_model.specs.Parcel.{Heard}
+use Rattle.m3_kernel.specs.ParcelView.{heard_in}
+use Rattle.m3_kernel.specs.PendingAnswer.{IsSettled, AreNotBoth}
+use Rattle.m3_kernel.specs.ArrivalView.{arrival_of}
+use Rattle.m3_kernel.proofs.HeardAnswer.{not_both, settled_then}
 use Rattle.m3_kernel.proofs.away.Away.meet.Goals as goal
 
 pub invariant_of-self : goal.invariant_of-self

@@ -1,9 +1,9 @@
 use Rattle.std.proofs.Common.{subst}
 use Rattle.std.specs.Prelude.{IfOk}
-use Rattle.m3_kernel.specs.Kernel.{kernel_take}
-use Rattle.m3_kernel.specs.Parcels.{parcel_of}
-use Rattle.m3_kernel.specs.States.{KernelAt, kernel_in}
-use Rattle.m3_kernel.specs.Doing.{Does}
+use Rattle.m3_model.specs.Kernel.Step.{kernel_take}
+use Rattle.m3_kernel.specs.ParcelView.{parcel_of}
+use Rattle.m3_kernel.specs.KernelStateView.{KernelAt, kernel_in}
+use Rattle.m3_kernel.specs.StepContracts.{Does}
 use Rattle.m3_kernel.proofs.kernel.Kernel.take.Goals as goal
 
 pub returns-clause-ok : goal.returns-clause-ok

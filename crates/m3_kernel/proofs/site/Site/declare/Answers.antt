@@ -1,5 +1,5 @@
 use Rattle.std.proofs.Common.{ap, not, ◌∙◌, rules}
-use Rattle.m3_kernel.proofs.Homes.{declared_first, declared_again}
+use Rattle.m3_kernel.proofs.HomeTable.{declared_first, declared_again}
 use Rattle.m3_kernel.proofs.site.Site.declare.Goals as goal
 
 pub invariant_of-self-then-is_none : goal.invariant_of-self-then-is_none

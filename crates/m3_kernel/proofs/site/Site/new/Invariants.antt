@@ -1,5 +1,5 @@
 use Rattle.std.proofs.Common.{◌≡◌, drop, []}
-use Rattle.m3_kernel.specs.Sites.{with_homes, site_of}
+use Rattle.m3_model.specs.Config.FromSetup.{with_homes, site_of}
 use Rattle.m3_kernel.proofs.site.Site.new.Given as goal
 
 abbrev pub invariant-loop-line : goal.invariant-loop-line

@@ -1,12 +1,12 @@
 use Rattle.std.proofs.Common.{◌∙◌, refl, sym, ap}
 use Rattle.std.specs.Vec.{with_item}
-use Rattle.m3_kernel.specs.Parts.{tile_of, Site}
-use Rattle.m3_kernel.specs.Parcels.{out_of}
-use Rattle.m3_kernel.specs.Kernel.{kernel_tend, then_restore}
-use Rattle.m3_kernel.specs.States.{kernel_in}
-use Rattle.m3_kernel.proofs.Applying.{met_tables, met_can, met_answers, tend_is}
+use Rattle.m3_model.specs.Config.Site.{tile_of, Site}
+use Rattle.m3_kernel.specs.ParcelView.{out_of}
+use Rattle.m3_model.specs.Kernel.Step.{kernel_tend, then_restore}
+use Rattle.m3_kernel.specs.KernelStateView.{kernel_in}
+use Rattle.m3_kernel.proofs.ApplyHeldPacket.{met_tables, met_can, met_answers, tend_is}
 use Rattle.m3_kernel.specs.declared.state.State.{State}
-use Rattle.m3_kernel.proofs.Deeds.{does_as}
+use Rattle.m3_kernel.proofs.StepOutcome.{does_as}
 use Rattle.m3_kernel.proofs.state.State.apply.Goals as goal
 
 pub send_back-first-requires-clause-kept : goal.send_back-first-requires-clause-kept

@@ -1,10 +1,10 @@
 use Rattle.std.proofs.Common.{◌≡◌, ℕ, ◌<◌, false, length, Some, None, sym, ap, ◌∙◌, subst, rules}
 use Rattle.std.specs.Prelude.{is_some, Option}
-use Rattle.m3_kernel.specs.Seats.{seat_value}
-use Rattle.m3_kernel.specs.Berths.{berth_at}
-use Rattle.m3_kernel.specs.States.{kernel_in}
-use Rattle.m3_kernel.specs.Doing.{DueAt}
-use Rattle.m3_kernel.proofs.Tables.{due_leaving, due_nobody, nobody_leaves, there_within, not_due, is_due_here, seat_here}
+use Rattle.m3_kernel.specs.ActivityView.{seat_value}
+use Rattle.m3_kernel.specs.LookupTables.{berth_at}
+use Rattle.m3_kernel.specs.KernelStateView.{kernel_in}
+use Rattle.m3_kernel.specs.StepContracts.{DueAt}
+use Rattle.m3_kernel.proofs.TableLookup.{due_leaving, due_nobody, nobody_leaves, there_within, not_due, is_due_here, seat_here}
 use Rattle.m3_kernel.proofs.state.State.due.Goals as goal
 
 pub returns-then-is_some : goal.returns-then-is_some

@@ -1,9 +1,9 @@
 use Rattle.std.proofs.Common.{◌≡◌, ℕ, sym, ◌∙◌, subst, arith}
 use Rattle.std.proofs.lemmas.Bool.Decides.{nat_tests}
-use Rattle.m3_kernel.specs.Parts.{tile_of}
-use Rattle.m3_kernel.specs.States.{kernel_in}
-use Rattle.m3_kernel.specs.Doing.{IsSeatOf}
-use Rattle.m3_kernel.proofs.Switching.{is_switch}
+use Rattle.m3_model.specs.Config.Site.{tile_of}
+use Rattle.m3_kernel.specs.KernelStateView.{kernel_in}
+use Rattle.m3_kernel.specs.StepContracts.{IsSeatOf}
+use Rattle.m3_kernel.proofs.PerformSwitch.{is_switch}
 use Rattle.m3_kernel.proofs.state.State.judge.Goals as goal
 
 pub returns-in-Some-leaver : goal.returns-in-Some-leaver

@@ -1,9 +1,9 @@
 use Rattle.std.proofs.Common.{◌≡◌, ℕ, ◌<◌, false, length, Some, None, sym, ap, ◌∙◌, subst, rules}
 use Rattle.std.specs.Prelude.{is_some, Option}
-use Rattle.m3_kernel.specs.Seats.{seat_value}
-use Rattle.m3_kernel.specs.Berths.{berth_at}
-use Rattle.m3_kernel.specs.Doing.{LeaverAt}
-use Rattle.m3_kernel.proofs.Tables.{leaver_leaving, leaver_nobody, nobody_leaves, there_within, not_leaver, is_leaver, seat_here}
+use Rattle.m3_kernel.specs.ActivityView.{seat_value}
+use Rattle.m3_kernel.specs.LookupTables.{berth_at}
+use Rattle.m3_kernel.specs.StepContracts.{LeaverAt}
+use Rattle.m3_kernel.proofs.TableLookup.{leaver_leaving, leaver_nobody, nobody_leaves, there_within, not_leaver, is_leaver, seat_here}
 use Rattle.m3_kernel.proofs.state.State.leaver.Goals as goal
 
 pub returns-then-is_some : goal.returns-then-is_some

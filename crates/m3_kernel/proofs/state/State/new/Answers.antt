@@ -1,6 +1,6 @@
 use Rattle.std.proofs.Common.{◌∙◌, sym, ap}
-use Rattle.m3_kernel.specs.Parts.{has_program}
-use Rattle.m3_kernel.proofs.Opening.{site_programs, site_memory, opened_tables}
+use Rattle.m3_model.specs.Config.Site.{has_program}
+use Rattle.m3_kernel.proofs.OpenedKernel.{site_programs, site_memory, opened_tables}
 use Rattle.m3_kernel.proofs.state.State.new.Goals as goal
 
 pub returns-clause-kept : goal.returns-clause-kept

@@ -1,8 +1,8 @@
 use Rattle.std.proofs.Common.{sym, subst, rules}
-use Rattle.m3_kernel.specs.Seats.{HasRoom}
-use Rattle.m3_kernel.specs.States.{RoomFor}
+use Rattle.m3_kernel.specs.ActivityView.{HasRoom}
+use Rattle.m3_kernel.specs.KernelStateView.{RoomFor}
 use Rattle.m3_kernel.specs.declared.seat.Seat.{Seat as CodeSeat}
-use Rattle.m3_kernel.proofs.Changing.{code_here, put_here, room_for, on_ok, tables_same_seats, kernel_same}
+use Rattle.m3_kernel.proofs.ChangeEntry.{code_here, put_here, room_for, on_ok, tables_same_seats, kernel_same}
 use Rattle.m3_kernel.proofs.state.State.reserve.Goals as goal
 
 pub returns-in_default : goal.returns-in_default

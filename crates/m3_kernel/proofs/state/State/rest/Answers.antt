@@ -1,10 +1,11 @@
 use Rattle.std.proofs.Common.{◌≡◌, ℕ, ◌<◌, ◌∙◌, [], sym, ap, subst}
 use Rattle.m3_base.specs.declared.event.Said.{Said}
-use Rattle.m3_kernel.specs.Parts.{tile_of, Kernel}
-use Rattle.m3_kernel.specs.Kernel.{seat_of, then_restore, take_saved}
-use Rattle.m3_kernel.specs.States.{kernel_in}
-use Rattle.m3_kernel.proofs.Taking.{leaving_there, rest_tables, rest_is, rested_kernel}
-use Rattle.m3_kernel.proofs.Deeds.{does_as}
+use Rattle.m3_model.specs.Config.Site.{tile_of}
+use Rattle.m3_model.specs.Kernel.State.{Kernel}
+use Rattle.m3_model.specs.Kernel.Step.{entry_of, then_restore, take_saved}
+use Rattle.m3_kernel.specs.KernelStateView.{kernel_in}
+use Rattle.m3_kernel.proofs.TakeYieldAndSaved.{leaving_there, rest_tables, rest_is, rested_kernel}
+use Rattle.m3_kernel.proofs.StepOutcome.{does_as}
 use Rattle.m3_kernel.proofs.state.State.rest.Goals as goal
 
 pub then_restore-requires : goal.then_restore-requires
@@ -31,7 +32,7 @@ returns-clause-does c =
     let leaving = leaving_there (kernel_in s) a c.args.at c.requires.place c.requires.leaves in
     let step = rest_is s kept a c.args.at c.requires.place c.index_mut.result.now c.index_mut.ensures.value c.from.result tile low c.index_mut-2.result.now c.index_mut-2.ensures.value leaving c.rest.new.self c.args.context c.args.ended c.rest.ensures c.args.waiting in
     let k : Kernel = rested_kernel s kept a c.args.at c.requires.place c.index_mut.result.now c.index_mut.ensures.value c.from.result tile low c.index_mut-2.result.now c.index_mut-2.ensures.value leaving c.rest.new.self c.args.context c.args.ended c.rest.ensures in
-    does_as c.then_restore.result (kernel_in c.then_restore.new.self) (take_saved s.site (kernel_in s) c.args.context c.args.waiting c.args.ended (seat_of a (kernel_in s)))
+    does_as c.then_restore.result (kernel_in c.then_restore.new.self) (take_saved s.site (kernel_in s) c.args.context c.args.waiting c.args.ended (entry_of a (kernel_in s)))
     (then_restore s.site (Said.Saved c.act-act.result) c.tile_of-tile.result k [])
     (step ∙ ap (λ n. then_restore s.site (Said.Saved n) c.from.result k []) (sym c.act-act.ensures) ∙ ap (λ t. then_restore s.site (Said.Saved c.act-act.result) t k []) (c.from.ensures ∙ c.number-2.ensures.same))
     c.then_restore.ensures.does

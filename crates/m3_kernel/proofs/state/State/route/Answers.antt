@@ -1,8 +1,8 @@
 use Rattle.std.proofs.Common.{refl, sym, ap, ◌∙◌, rules}
 use Rattle.std.specs.Prelude.{◌||◌}
-use Rattle.m3_kernel.specs.Parts.{tile_of}
-use Rattle.m3_kernel.specs.Kernel.{is_placed_seat, is_leaving_seat, is_coming_seat}
-use Rattle.m3_kernel.proofs.Changing.{code_here, room_of, routes_placed, routes_held, tables_now}
+use Rattle.m3_model.specs.Config.Site.{tile_of}
+use Rattle.m3_model.specs.Kernel.Step.{is_placed_entry, is_leaving_entry, is_coming_entry}
+use Rattle.m3_kernel.proofs.ChangeEntry.{code_here, room_of, routes_placed, routes_held, tables_now}
 use Rattle.m3_kernel.proofs.state.State.route.Goals as goal
 
 pub keep-requires : goal.keep-requires
@@ -24,7 +24,7 @@ returns-in_default c =
     let y = c.keep.new.self in
     let was = c.index_mut-seat.ensures.value in
     record {
-      kept = record { tables = tables_now s kept c.args.at x y c.requires.there was (ap (λ z. z.act) c.keep.ensures) (ap (λ z. is_leaving_seat z.seating) c.keep.ensures) (ap (λ z. is_placed_seat z.seating || is_coming_seat z.seating) c.keep.ensures); programs = kept.programs; memory = kept.memory };
+      kept = record { tables = tables_now s kept c.args.at x y c.requires.there was (ap (λ z. z.act) c.keep.ensures) (ap (λ z. is_leaving_entry z.seating) c.keep.ensures) (ap (λ z. is_placed_entry z.seating || is_coming_entry z.seating) c.keep.ensures); programs = kept.programs; memory = kept.memory };
       site = search rules;
       routes = routes_held s kept c.args.at x y c.requires.there was c.args.packet (λ q. c.in_default.not-Placed (c.place.ensures ∙ q)) c.keep.ensures;
     }

@@ -1,7 +1,7 @@
 use Rattle.std.proofs.Common.{◌≡◌, ℕ, ◌<◌, true, false, ◌∷◌, ◌++◌, [], ◌∙◌, length, sym, ap, subst, rules}
 use Rattle.std.specs.Prelude.{is_none}
-use Rattle.m3_kernel.specs.Parts.{tile_of}
-use Rattle.m3_kernel.proofs.Opening.{seat_rests, seat_first, seat_opened}
+use Rattle.m3_model.specs.Config.Site.{tile_of}
+use Rattle.m3_kernel.proofs.OpenedKernel.{seat_rests, seat_first, seat_opened}
 use Rattle.m3_kernel.proofs.state.State.seat.Goals as goal
 
 pub returns-then-not-is_first-clause-kept : goal.returns-then-not-is_first-clause-kept

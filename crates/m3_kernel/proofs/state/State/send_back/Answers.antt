@@ -1,8 +1,8 @@
 use Rattle.std.proofs.Common.{subst}
-use Rattle.m3_kernel.specs.States.{kernel_in}
-use Rattle.m3_kernel.specs.Doing.{AnswersBy, IsAnswer}
+use Rattle.m3_kernel.specs.KernelStateView.{kernel_in}
+use Rattle.m3_kernel.specs.StepContracts.{AnswersBy, IsAnswer}
 use Rattle.m3_kernel.specs.declared.state.tend.Back.{Back}
-use Rattle.m3_kernel.proofs.Answering.{sends_answer}
+use Rattle.m3_kernel.proofs.AnswerOut.{sends_answer}
 use Rattle.m3_kernel.proofs.state.State.send_back.Goals as goal
 
 pub returns-in-To-Some-clause-sends : goal.returns-in-To-Some-clause-sends

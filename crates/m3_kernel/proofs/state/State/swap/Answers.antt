@@ -1,5 +1,5 @@
 use Rattle.std.proofs.Common.{ℕ, ◌<◌, ◌∙◌, subst}
-use Rattle.m3_kernel.proofs.Switching.{tables_now, switch_does}
+use Rattle.m3_kernel.proofs.PerformSwitch.{tables_now, switch_does}
 use Rattle.m3_kernel.proofs.state.State.swap.Goals as goal
 
 pub returns-clause-kept : goal.returns-clause-kept

@@ -1,8 +1,9 @@
 use Rattle.std.proofs.Common.{subst}
-use Rattle.m3_kernel.specs.Parts.{Site, Kernel}
-use Rattle.m3_kernel.specs.Kernel.{take_data}
-use Rattle.m3_kernel.specs.States.{kernel_in}
-use Rattle.m3_kernel.specs.Doing.{Does}
+use Rattle.m3_model.specs.Config.Site.{Site}
+use Rattle.m3_model.specs.Kernel.State.{Kernel}
+use Rattle.m3_model.specs.Kernel.Step.{take_data}
+use Rattle.m3_kernel.specs.KernelStateView.{kernel_in}
+use Rattle.m3_kernel.specs.StepContracts.{Does}
 use Rattle.m3_kernel.proofs.state.State.take_data.Goals as goal
 
 pub returns-in-Ok-clause-ok : goal.returns-in-Ok-clause-ok

@@ -1,13 +1,13 @@
 use Rattle.std.proofs.Common.{ℕ, ◌∙◌, Some, None, sym, ap, subst}
 use Rattle.m3_base.specs.declared.event.Said.{Said}
 use Rattle.m3_base.specs.declared.event.IdleWhy.{IdleWhy}
-use Rattle.m3_kernel.specs.Kernel.{kernel_tend}
-use Rattle.m3_kernel.specs.Seats.{seat_value}
-use Rattle.m3_kernel.specs.States.{kernel_in}
-use Rattle.m3_kernel.specs.Doing.{IsSeatOf}
-use Rattle.m3_kernel.proofs.Switching.{same_seat}
-use Rattle.m3_kernel.proofs.Tending.{placed_idle, leaving_idle, away_if}
-use Rattle.m3_kernel.proofs.Deeds.{says_does}
+use Rattle.m3_model.specs.Kernel.Step.{kernel_tend}
+use Rattle.m3_kernel.specs.ActivityView.{seat_value}
+use Rattle.m3_kernel.specs.KernelStateView.{kernel_in}
+use Rattle.m3_kernel.specs.StepContracts.{IsSeatOf}
+use Rattle.m3_kernel.proofs.PerformSwitch.{same_seat}
+use Rattle.m3_kernel.proofs.TendFront.{placed_idle, leaving_idle, away_if}
+use Rattle.m3_kernel.proofs.StepOutcome.{says_does}
 use Rattle.m3_kernel.proofs.state.State.tend.Goals as goal
 
 pub tend_away-requires-clause-away : goal.tend_away-requires-clause-away

@@ -1,6 +1,6 @@
 use Rattle.std.proofs.Common.{ℕ, ◌<◌, ◌∙◌, subst}
-use Rattle.m3_kernel.proofs.Tables.{within_seats}
-use Rattle.m3_kernel.proofs.Restoring.{restore_tables, restore_does}
+use Rattle.m3_kernel.proofs.TableLookup.{within_seats}
+use Rattle.m3_kernel.proofs.RestoreOut.{restore_tables, restore_does}
 use Rattle.m3_kernel.proofs.state.State.then_restore.Goals as goal
 
 pub returns-in-Some-clause-kept : goal.returns-in-Some-clause-kept

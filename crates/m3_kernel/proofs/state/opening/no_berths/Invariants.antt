@@ -1,5 +1,5 @@
 use Rattle.std.proofs.Common.{◌≡◌, replicate}
-use Rattle.m3_kernel.specs.Berths.{empty_berth}
+use Rattle.m3_kernel.specs.LookupTables.{empty_berth}
 use Rattle.m3_kernel.proofs.state.opening.no_berths.Given as goal
 
 abbrev pub invariant-loop : goal.invariant-loop

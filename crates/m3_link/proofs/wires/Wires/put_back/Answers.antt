@@ -1,13 +1,35 @@
-use Rattle.std.proofs.Common.{arith, ◌∷◌}
-use Rattle.m3_link.proofs.Lists.{list_set, spare_filled}
+use Rattle.std.proofs.Common.{◌<◌, ◌≡◌, ℕ, arith, ◌∷◌, List, Bool, false, map, length, length-set, set, subst, sym, ap, ◌∙◌, refl}
+use Rattle.m3_link.specs.LinkOps.{place, with_one_less}
+use Rattle.m3_link.specs.LinksView.{spare_in, wires_of, AreRoomy}
+use Rattle.m3_link.proofs.UpdateOneLink.{list_set, spare_filled}
+use Rattle.m3_link.proofs.Room.{unmarked, length_noted}
 use Rattle.m3_link.proofs.wires.Wires.put_back.Goals as goal
 
 pub returns-clause-lists : goal.returns-clause-lists
 returns-clause-lists c =
-    list_set c.self.inside.links.items c.place-at.result c.index_mut.result.now (omega (arith, c.self.invariant, c.place-at.ensures.range)) c.index_mut.ensures.value c.args.self.now c.self.view_is _ c.place-at.ensures.value
+    list_set c.self.inside.links.items c.place-at.result c.index_mut.result.now (omega (arith, c.self.invariant.count, c.place-at.ensures.range)) c.index_mut.ensures.value c.args.self.now c.self.view_is _ c.place-at.ensures.value
     c.push_front_reserved.new.self (λ ps. c.args.parcel ∷ ps) c.push_front_reserved.ensures.items
 
 pub returns-clause-spare : goal.returns-clause-spare
 returns-clause-spare c =
-    spare_filled c.self.inside.links.items c.place-at.result c.index_mut.result.now (omega (arith, c.self.invariant, c.place-at.ensures.range)) c.index_mut.ensures.value c.args.self.now c.self.view_is _ c.place-at.ensures.value
+    spare_filled c.self.inside.links.items c.place-at.result c.index_mut.result.now (omega (arith, c.self.invariant.count, c.place-at.ensures.range)) c.index_mut.ensures.value c.args.self.now c.self.view_is _ c.place-at.ensures.value
     c.push_front_reserved.new.self c.push_front_reserved.ensures.len c.push_front_reserved.ensures.capacity
+
+pub invariant_of-self : goal.invariant_of-self
+invariant_of-self c =
+    let links = c.self.inside.links.items in
+    let j = place c.args.from c.args.to in
+    let within : c.place-at.result < length links = omega (arith, c.self.invariant.count, c.place-at.ensures.range) in
+    let now : map spare_in (set links c.place-at.result c.push_front_reserved.new.self) ≡ with_one_less (map spare_in links) j =
+    spare_filled links c.place-at.result c.index_mut.result.now within c.index_mut.ensures.value (wires_of links) refl j c.place-at.ensures.value
+    c.push_front_reserved.new.self c.push_front_reserved.ensures.len c.push_front_reserved.ensures.capacity in
+    record {
+      count = length-set links c.place-at.result c.push_front_reserved.new.self ∙ c.self.invariant.count;
+      tiles = ap length c.note_room.ensures ∙ length_noted false c.args.from c.self.inside.roomy.items ∙ c.self.invariant.tiles;
+      roomy =
+          subst (λ (ns : List ℕ). AreRoomy c.note_room.new.roomy.items ns) (sym now) (
+          subst (λ (marks : List Bool). AreRoomy marks (with_one_less (map spare_in links) j)) (sym c.note_room.ensures) (
+          unmarked c.self.inside.roomy.items (map spare_in links) c.args.from c.args.to c.place-at.ensures.low c.self.invariant.roomy
+          )
+          );
+    }

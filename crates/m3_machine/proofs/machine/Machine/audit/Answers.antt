@@ -1,55 +1,62 @@
-use Rattle.std.proofs.Common.{◌≡◌, ℕ, ◌+◌, List, [], ◌∷◌, ◌++◌, length, length-append, min, is_none, ◌∙◌, ap, arith}
+use Rattle.std.proofs.Common.{◌≡◌, ℕ, ◌+◌, List, [], ◌∷◌, ◌++◌, length, length-append, min, is_none, ◌∙◌, ap, sym, subst, arith}
 use Rattle.m3_base.specs.declared.journal.AuditLine.{AuditLine}
-use Rattle.m3_endpoint.specs.Counts.{most}
-use Rattle.m3_kernel.specs.Parts.{Tile}
-use Rattle.m3_kernel.specs.Parcels.{parcels_of}
-use Rattle.m3_kernel.specs.Seats.{seats_of}
-use Rattle.m3_link.specs.Links.{data_on}
-use Rattle.m3_machine.specs.At.{each, on_links, held_by, packets_in, all_contexts, all_packets}
-use Rattle.m3_machine.specs.Next.{tile_lines, next_event}
-use Rattle.m3_machine.specs.Closing.{live_lines, contexts_of, packets_of}
-use Rattle.m3_machine.specs.Whole.{Whole}
-use Rattle.m3_machine.proofs.AuditKept.{audit_is}
-use Rattle.m3_machine.proofs.Closing.{all_lines, is_none_from}
-use Rattle.m3_machine.proofs.Counting.{flights_are}
+use Rattle.m3_base.specs.Journal.Audit.{audit_lines}
+use Rattle.m3_base.specs.Placement.Driver as driver
+use Rattle.m3_endpoint.specs.Counters.{most}
+use Rattle.m3_model.specs.Parcel.{Parcel}
+use Rattle.m3_model.specs.Kernel.State.{ActivityEntry}
+use Rattle.m3_model.specs.Tile.State.{Tile}
+use Rattle.m3_kernel.specs.ParcelView.{parcels_of}
+use Rattle.m3_kernel.specs.ActivityView.{seats_of}
+use Rattle.m3_link.specs.LinkOps.{data_on}
+use Rattle.m3_model.specs.Abstraction.{ideal_of, placement_of, flat_map, flat_links, held_by, packets_in, all_contexts, all_packets}
+use Rattle.m3_trace.specs.DriverOfMachine.{tile_lines}
+use Rattle.m3_trace.specs.Opening.{site}
+use Rattle.m3_trace.proofs.TraceGrows.{trace_few}
+use Rattle.m3_machine.specs.AuditView.{live_lines, contexts_of, packets_of}
+use Rattle.m3_machine.specs.MachineView.{MachineValue, ideal, placement}
+use Rattle.m3_machine.proofs.AuditIsIdeal.{audited}
+use Rattle.m3_machine.proofs.TileLines.{all_lines, is_none_from}
+use Rattle.m3_machine.proofs.CountPackets.{flights_are}
 use Rattle.m3_machine.proofs.machine.Machine.audit.Goals as goal
 
-pub returns-clause-lines : goal.returns-clause-lines
-returns-clause-lines c =
-    let w = c.args.self.now in
+pub returns : goal.returns
+returns c =
     let inside = c.self.inside in
-    let lists = inside.wires.lists in
-    let links = parcels_of lists in
-    let credits_of = λ (v : Whole). live_lines (all_contexts v.machine) (all_packets v.machine) v.machine.kernel.grants in
-    let credits : live_lines (contexts_of c.deref.result.now (seats_of c.seats-seats.result.now) links) (packets_of (seats_of c.seats-seats.result.now) links) c.grants.result.now.grants ≡ credits_of w =
-    (λ k. live_lines (contexts_of (c.deref.ensures.value k) (c.seats-seats.ensures k) links) (packets_of (c.seats-seats.ensures k) links) (c.grants.ensures.grants k)) ∙ ap credits_of c.self.view_is in
-    let tiled : tile_lines c.tiles.result c.deref-2.result.now ≡ tile_lines w.setup.tiles w.machine.tiles =
-    ap (λ (k : ℕ). tile_lines k c.deref-2.result.now) c.tiles.ensures
-    ∙ ap (λ (ts : List Tile). tile_lines inside.journal.setup.tiles ts) c.deref-2.ensures.value
-    ∙ ap (λ (v : Whole). tile_lines v.setup.tiles v.machine.tiles) c.self.view_is in
-    let held = each held_by inside.kernel.kernel.seats in
-    let all : length held + data_on lists ≡ length (held ++ on_links packets_in links) = (let a = flights_are lists in let b = length-append held (on_links packets_in links) in omega arith) in
-    let flown : c.flights.result ≡ min most (length (all_packets w.machine)) =
+    let s = inside.journal.setup in
+    let m = inside.engine.machine in
+    let lists = c.wires-wires.result.now.lists in
+    let seats = seats_of c.seats-seats.result.now in
+    let on : parcels_of lists ≡ m.links = c.wires-wires.ensures in
+    let credits : live_lines (contexts_of c.tiles-tiles.result.now seats (parcels_of lists)) (packets_of seats (parcels_of lists)) c.grants.result.now.grants ≡ live_lines (all_contexts m) (all_packets m) m.kernel.grants =
+    (λ k. live_lines (contexts_of (c.tiles-tiles.ensures.tiles k) (c.seats-seats.ensures k) (on k)) (packets_of (c.seats-seats.ensures k) (on k)) (c.grants.ensures k)) in
+    let tiled : tile_lines c.tiles.result c.tiles-tiles.result.now ≡ tile_lines s.tiles m.tiles =
+    (λ k. tile_lines (c.tiles.ensures k) (c.tiles-tiles.ensures.tiles k)) in
+    let held = flat_map held_by m.kernel.seats in
+    let all : length held + data_on lists ≡ length (held ++ flat_links packets_in (parcels_of lists)) = (let a = flights_are lists in let b = length-append held (flat_links packets_in (parcels_of lists)) in omega arith) in
+    let flown : c.flights.result ≡ min most (length (all_packets m)) =
     c.flights.ensures
-    ∙ ap (λ ss. min most (length (each held_by ss) + data_on lists)) c.seats-seats.ensures
+    ∙ ap (λ ss. min most (length (flat_map held_by ss) + data_on lists)) c.seats-seats.ensures
     ∙ ap (min most) all
-    ∙ ap (λ (v : Whole). min most (length (all_packets v.machine))) c.self.view_is in
-    let quiet : c.is_none.result ≡ is_none (next_event w.machine) = is_none_from c.is_none.result c.next.result c.is_none.ensures ∙ ap is_none c.next.ensures in
+    ∙ ap (λ ls. min most (length (held ++ flat_links packets_in ls))) on in
+    let quiet : c.is_none.result ≡ is_none c.next.result = is_none_from c.is_none.result c.next.result c.is_none.ensures in
+    let drives : c.next.result ≡ driver.next_event (ideal_of m) (placement_of (site s) m) [] =
+    subst (λ (w : MachineValue). c.next.result ≡ driver.next_event (ideal w) (placement w) []) (sym c.self.view_is) c.next.ensures in
+    subst (λ (w : MachineValue). c.push-2.new.self.items ≡ audit_lines w.setup.tiles (ideal w) (placement w) []) c.self.view_is (
     all_lines
     c.new-lines.result.items
     c.credit_lines.new.lines.items
     c.tile_lines.new.lines.items
     c.push.new.self.items
     c.push-2.new.self.items
-    (credits_of w)
-    (tile_lines w.setup.tiles w.machine.tiles)
-    (AuditLine.Flights (min most (length (all_packets w.machine))))
-    (AuditLine.Quiet (is_none (next_event w.machine)))
+    (live_lines (all_contexts m) (all_packets m) m.kernel.grants)
+    (tile_lines s.tiles m.tiles)
+    (AuditLine.Flights (min most (length (all_packets m))))
+    (AuditLine.Quiet (is_none c.next.result))
     c.new-lines.ensures.items
     (c.in_ok-credit_lines.ensures ∙ ap (λ ls. c.new-lines.result.items ++ ls) credits)
     (c.in_ok-tile_lines.ensures ∙ ap (λ ls. c.credit_lines.new.lines.items ++ ls) tiled)
     (c.in_ok-push.ensures.items ∙ ap (λ (n : ℕ). c.tile_lines.new.lines.items ++ AuditLine.Flights n ∷ []) flown)
     (c.in_ok-push-2.ensures.items ∙ ap (λ b. c.push.new.self.items ++ AuditLine.Quiet b ∷ []) quiet)
-
-pub returns-clause-ideal : goal.returns-clause-ideal
-returns-clause-ideal c counted = returns-clause-lines c ∙ audit_is c.args.self.now counted
+    ∙ audited (site s) m c.self.invariant.trace.ran.kept s.tiles c.next.result (trace_few s inside.journal.entries.items m c.self.invariant.trace) drives
+    )

@@ -1,10 +1,10 @@
 use Rattle.std.proofs.Common.{◌≡◌, ◌++◌, ◌∙◌, ◌∷◌, [], ap, subst, sym, List}
 use Rattle.std.specs.declared.collections.vec_deque.Iter.{Iter}
-use Rattle.m3_base.specs.Context.{Context}
+use Rattle.m3_base.specs.Ideal.Context.{Context}
 use Rattle.m3_base.specs.declared.packet.Packet.{Packet}
-use Rattle.m3_machine.specs.Tally.{listed}
-use Rattle.m3_machine.proofs.Entering.{none_left}
-use Rattle.m3_machine.proofs.Tallying.{LeftOf, counted, counted_all}
+use Rattle.m3_machine.specs.CreditCounts.{listed}
+use Rattle.m3_base.proofs.MemoryStreams.{empty_list as none_left}
+use Rattle.m3_machine.proofs.CountCredits.{LeftOf, counted, counted_all}
 use Rattle.m3_machine.proofs.tally.Tally.hold.Goals as goal
 
 abbrev nothing : List Context

@@ -1,6 +1,6 @@
 use Rattle.std.proofs.Common.{◌++◌, []}
-use Rattle.m3_machine.specs.Tally.{listed}
-use Rattle.m3_machine.proofs.Tallying.{LeftOf}
+use Rattle.m3_machine.specs.CreditCounts.{listed}
+use Rattle.m3_machine.proofs.CountCredits.{LeftOf}
 use Rattle.m3_machine.proofs.tally.Tally.hold.Given as goal
 
 abbrev pub invariant-loop-packet : goal.invariant-loop-packet

@@ -1,17 +1,17 @@
 use Rattle.std.proofs.Common.{◌≡◌, ◌++◌, ◌∙◌, map, ap, subst, sym, List}
 use Rattle.std.specs.declared.collections.vec_deque.Iter.{Iter}
 use Rattle.m3_core.specs.declared.parcel.Parcel.{Parcel as CodeParcel}
-use Rattle.m3_kernel.specs.Parcels.{parcel_of}
-use Rattle.m3_machine.specs.At.{each, contexts_in, packets_in}
-use Rattle.m3_machine.specs.Tally.{listed}
-use Rattle.m3_machine.proofs.Entering.{none_left}
-use Rattle.m3_machine.proofs.Tallying.{LeftOf, counted, counted_all}
+use Rattle.m3_kernel.specs.ParcelView.{parcel_of}
+use Rattle.m3_model.specs.Abstraction.{flat_map, contexts_in, packets_in}
+use Rattle.m3_machine.specs.CreditCounts.{listed}
+use Rattle.m3_base.proofs.MemoryStreams.{empty_list as none_left}
+use Rattle.m3_machine.proofs.CountCredits.{LeftOf, counted, counted_all}
 use Rattle.m3_machine.proofs.tally.Tally.link.Goals as goal
 
 pub loop-parcel-init : goal.loop-parcel-init
 loop-parcel-init c =
-    let cs = λ (ps : List CodeParcel). each contexts_in (map parcel_of ps) in
-    let ds = λ (ps : List CodeParcel). each packets_in (map parcel_of ps) in
+    let cs = λ (ps : List CodeParcel). flat_map contexts_in (map parcel_of ps) in
+    let ds = λ (ps : List CodeParcel). flat_map packets_in (map parcel_of ps) in
     let items = c.args.link.now.items in
     let all : c.into_iter-parcel-iterator.result.head.now ++ c.into_iter-parcel-iterator.result.wrapped.now ≡ items =
     ap (λ (it : Iter CodeParcel). it.head.now ++ it.wrapped.now) c.into_iter-parcel-iterator.ensures.into_iter_gives ∙ c.iter-parcel-items.ensures.rest in
@@ -19,8 +19,8 @@ loop-parcel-init c =
 
 pub loop-parcel-preserved : goal.loop-parcel-preserved
 loop-parcel-preserved c =
-    let cs = λ (ps : List CodeParcel). each contexts_in (map parcel_of ps) in
-    let ds = λ (ps : List CodeParcel). each packets_in (map parcel_of ps) in
+    let cs = λ (ps : List CodeParcel). flat_map contexts_in (map parcel_of ps) in
+    let ds = λ (ps : List CodeParcel). flat_map packets_in (map parcel_of ps) in
     let items = c.args.link.now.items in
     let q = parcel_of c.in-Some.parcel.now in
     let rest = c.loop-parcel.parcel-iterator.head.now ++ c.loop-parcel.parcel-iterator.wrapped.now in
@@ -30,8 +30,8 @@ loop-parcel-preserved c =
 
 pub returns : goal.returns
 returns c =
-    let cs = λ (ps : List CodeParcel). each contexts_in (map parcel_of ps) in
-    let ds = λ (ps : List CodeParcel). each packets_in (map parcel_of ps) in
+    let cs = λ (ps : List CodeParcel). flat_map contexts_in (map parcel_of ps) in
+    let ds = λ (ps : List CodeParcel). flat_map packets_in (map parcel_of ps) in
     let items = c.args.link.now.items in
     let rest = c.loop-parcel.parcel-iterator.head.now ++ c.loop-parcel.parcel-iterator.wrapped.now in
     let none = none_left rest c.in-None.ensures.steps.0 in

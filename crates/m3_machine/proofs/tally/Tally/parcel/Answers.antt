@@ -1,8 +1,8 @@
 use Rattle.std.proofs.Common.{sym, subst}
 use Rattle.m3_core.specs.declared.parcel.Parcel.{Parcel as CodeParcel}
-use Rattle.m3_kernel.specs.Parcels.{parcel_of}
-use Rattle.m3_machine.specs.At.{contexts_in, packets_in}
-use Rattle.m3_machine.specs.Tally.{listed, Counts}
+use Rattle.m3_kernel.specs.ParcelView.{parcel_of}
+use Rattle.m3_model.specs.Abstraction.{contexts_in, packets_in}
+use Rattle.m3_machine.specs.CreditCounts.{listed, Counts}
 use Rattle.m3_machine.proofs.tally.Tally.parcel.Goals as goal
 
 pub returns-in-Saved : goal.returns-in-Saved

@@ -1,11 +1,11 @@
 use Rattle.std.proofs.Common.{map, sym, ap, subst, ◌∙◌}
 use Rattle.std.specs.Prelude.{Option}
-use Rattle.m3_base.specs.Context.{Context}
-use Rattle.m3_kernel.specs.Parcels.{out_of}
-use Rattle.m3_machine.specs.Machine.{new_stay}
-use Rattle.m3_machine.specs.Telling.{Does}
-use Rattle.m3_machine.specs.Tile.{take_save}
-use Rattle.m3_machine.proofs.Taking.{saves}
+use Rattle.m3_base.specs.Ideal.Context.{Context}
+use Rattle.m3_kernel.specs.ParcelView.{out_of}
+use Rattle.m3_model.specs.Machine.{new_stay}
+use Rattle.m3_machine.specs.TileStepView.{Does}
+use Rattle.m3_model.specs.Tile.Step.{take_save}
+use Rattle.m3_machine.proofs.TileTake.{saves}
 use Rattle.m3_machine.proofs.tile.TilePart.save.Goals as goal
 
 pub returns : goal.returns

@@ -1,5 +1,5 @@
 use Rattle.std.proofs.Common.{sym, ◌∙◌}
-use Rattle.m3_machine.proofs.Taking.{takes_data}
+use Rattle.m3_machine.proofs.TileTake.{takes_data}
 use Rattle.m3_machine.proofs.tile.TilePart.take_data.Goals as goal
 
 pub returns : goal.returns
