@@ -1,2 +1,3 @@
-pub mod Following
-pub mod Showing
+pub mod Outputs
+pub mod JournalFollowsScript
+pub mod PacketsShown

@@ -4,19 +4,19 @@ use Rattle.std.specs.List.{All}
 use Rattle.m3_base.specs.declared.event.Event.{Event}
 use Rattle.m3_base.specs.declared.event.Entry.{Entry}
 use Rattle.m3_base.specs.declared.journal.AuditLine.{AuditLine}
-use Rattle.m3_base.specs.Setup.{SetupValue}
-use Rattle.m3_base.specs.Audit.{audit_lines}
-use Rattle.m3_base.specs.Entries.{IsRun, after}
-use Rattle.m3_base.specs.Opening.{opening}
-use Rattle.m3_base.specs.Places.{Places, opening_places}
-use Rattle.m3_base.specs.Seen.{seen, given, steps_in}
-use Rattle.m3_base.specs.Causes.{Appends, AppendsSome, GivesMore}
-use Rattle.m3_machine.specs.Closing.{IsCounted, ideal_lines}
-use Rattle.m3_machine.specs.Whole.{Whole, site, IsOfSetup as HasAct}
-use Rattle.m3_machine.specs.Kept.{IsWithin, PlacesRun, Ran}
+use Rattle.m3_base.specs.Setup.Rules.{SetupValue}
+use Rattle.m3_base.specs.Journal.Audit.{audit_lines}
+use Rattle.m3_base.specs.Journal.Entry.{IsRun, state_after_entries}
+use Rattle.m3_base.specs.Ideal.Opening.{opening}
+use Rattle.m3_base.specs.Placement.State.{Placement}
+use Rattle.m3_base.specs.Placement.Opening.{opening_placement}
+use Rattle.m3_base.specs.Journal.Replies.{printed_replies, ideal_replies, steps_in}
+use Rattle.m3_laws.specs.JournalLaws.{AfterEach, KeepsLaws}
+use Rattle.m3_machine.specs.MachineView.{MachineValue, ideal, placement, NamesActs}
+use Rattle.m3_trace.specs.Invariant.{PlacementRun}
 use Rattle.m3_script.specs.declared.script.Mode.{Mode}
-use Rattle.m3_script.specs.Scripts.{Refused, ScriptValue, script_of}
-use Rattle.m3_journal.specs.Texts.{journal_text}
+use Rattle.m3_script.specs.ScriptText.{Refused, ScriptValue, script_of}
+use Rattle.m3_journal.specs.JournalText.{journal_text}
 
 abbrev pub line_of : List ℕ → List ℕ
 line_of text = text ++ 10 ∷ []
@@ -39,42 +39,43 @@ most_bytes = 1048576
 abbrev pub event_of : Entry → Event
 event_of e = e.event
 
--- each command is of an activity of the setup, and each take is of two tiles
-abbrev pub IsOfSetup : SetupValue → Event → Type 0
-IsOfSetup s e = HasAct (site s) e × IsWithin e
-
+-- each event names activities of the setup
 abbrev pub AreOfSetup : SetupValue → List Event → Type 0
-AreOfSetup s events = All (IsOfSetup s) events
+AreOfSetup s events = All (NamesActs s) events
 
--- the entries of these events were added, in this order; they are a run of the ideal machine from the state that the
--- machine stood for to the one that it stands for, and so are its places
-pub record Follows (old : Whole) (events : List Event) (new : Whole) : Type 0 where
+-- the entries of these events were added, in this order
+pub record Follows (old : MachineValue) (events : List Event) (new : MachineValue) : Type 0 where
   pub same : new.setup ≡ old.setup
   pub made : List Entry
   pub added : new.entries ≡ old.entries ++ made
   pub follows : map event_of made ≡ events
-  pub ran : Ran (site old.setup) old.machine made new.machine
 
--- the text is that of this machine's journal
-pub record IsTextAt (m : Whole) (text : List ℕ) : Type 0 where
-  pub audit : List AuditLine
-  pub audit_is : IsCounted m → audit ≡ ideal_lines m
-  pub few : length m.entries ≤ 2097152
-  pub is_text : text ≡ journal_text m.setup m.entries audit
+-- the text is that of this machine's journal, whose entries are a run of the ideal machine from the setup's opening to
+-- what the machine stands for
+pub record IsTextAt (m : MachineValue) (text : List ℕ) : Type 0 where
+  pub run : IsRun (opening m.setup.memory m.setup.lines) m.entries
+  pub reaches : state_after_entries (opening m.setup.memory m.setup.lines) m.entries ≡ ideal m
+  pub places : PlacementRun (opening m.setup.memory m.setup.lines) (opening_placement [] m.setup.lines) m.entries (placement m)
+  pub replies : (a : ℕ) → printed_replies a (opening m.setup.memory m.setup.lines) m.entries ≡ ideal_replies a (opening m.setup.memory m.setup.lines) (steps_in m.entries)
+  pub laws : AfterEach (KeepsLaws (opening m.setup.memory m.setup.lines)) m.entries
+  pub is_text : text ≡ journal_text m.setup m.entries (audit_lines m.setup.tiles (ideal m) (placement m) [])
 
 -- the text is that of a journal of this setup: its entries have these events in their order, are a run of the ideal
 -- machine from the setup's opening, each with just what its steps say, and move the places from those of the opening;
 -- the replies that they print for each activity are just those that the steps give it; and the lines that close it are
--- those of the state and the places that they reach
+-- those of the state and the places that they reach. After every entry the laws hold: credits make up each grant's limit,
+-- messages land in the order of their issue and are fetched once, in that order, bytes that are read or written are
+-- granted, refused sends have their causes, and nothing is left of a grant that is done
 pub record IsTextOf (setup : SetupValue) (events : List Event) (text : List ℕ) : Type 0 where
   pub entries : List Entry
   pub audit : List AuditLine
-  pub last : Places
+  pub last : Placement
   pub follows : map event_of entries ≡ events
   pub run : IsRun (opening setup.memory setup.lines) entries
-  pub places : PlacesRun (opening setup.memory setup.lines) (opening_places [] setup.lines) entries last
-  pub replies : (a : ℕ) → seen a (opening setup.memory setup.lines) entries ≡ given a (opening setup.memory setup.lines) (steps_in entries)
-  pub audit_is : audit ≡ audit_lines setup.tiles (after (opening setup.memory setup.lines) entries) last []
+  pub places : PlacementRun (opening setup.memory setup.lines) (opening_placement [] setup.lines) entries last
+  pub replies : (a : ℕ) → printed_replies a (opening setup.memory setup.lines) entries ≡ ideal_replies a (opening setup.memory setup.lines) (steps_in entries)
+  pub audit_is : audit ≡ audit_lines setup.tiles (state_after_entries (opening setup.memory setup.lines) entries) last []
+  pub laws : AfterEach (KeepsLaws (opening setup.memory setup.lines)) entries
   pub is_text : text ≡ journal_text setup entries audit
 
 -- the reader refuses the bytes
@@ -89,12 +90,6 @@ pub record IsJournalOf (bytes text : List ℕ) : Type 0 where
   pub spelled : script_of Mode.Run 0 bytes ≡ Ok (record { setup = setup; events = events })
   pub is_text : IsTextOf setup events text
 
--- the journal of the script is written
-pub record WritesJournal (bytes : List ℕ) (old new : Option (List ℕ)) : Type 0 where
-  pub text : List ℕ
-  pub journal : IsJournalOf bytes text
-  pub written : Appends old new text
-
 -- what holds of a source's bytes, where it tells them
 abbrev pub OfBytes : Option (List ℕ) → (List ℕ → Type 0) → Type 0
 OfBytes None P = Unit {0}
@@ -104,18 +99,6 @@ OfBytes (Some bytes) P = P bytes
 pub record IsScript (bytes : List ℕ) : Type 0 where
   pub script : ScriptValue
   pub spelled : script_of Mode.Run 0 bytes ≡ Ok script
-
--- ---- what the sink has of it where it failed
-
--- what a run answers to these bytes: the journal of the script, or that they are none
-abbrev pub IsAnswerTo : List ℕ → List ℕ → Type 0
-IsAnswerTo bytes text = IsJournalOf bytes text ⊎ (IsNoScript bytes × (text ≡ bad_script_line))
-
--- a prefix of such a text is written
-pub record WritesSome (Is : List ℕ → Type 0) (old new : Option (List ℕ)) : Type 0 where
-  pub text : List ℕ
-  pub output : Is text
-  pub part : AppendsSome old new text
 
 -- ---- which statuses there are
 

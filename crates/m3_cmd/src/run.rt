@@ -1,17 +1,15 @@
 //! A script is read, run, and its journal written.
 
 ghost use Rattle.std.specs.Prelude.{◌≡◌, ◌≢◌, ◌⊎◌, ◌≤◌, ◌∷◌, [], length, OnOk, IfOk, Some, None};
-ghost use Rattle.m3_base.specs.Causes.{Rose, Appends, AppendsSome, GivesMore, GivesUpTo};
-ghost use Rattle.m3_machine.specs.Kept.{IsKept};
-ghost use Rattle.m3_machine.specs.Whole.{site};
+ghost use Rattle.m3_base.specs.Io.Streams.{Rose, Appends, AppendsSome, GivesMore, GivesUpTo};
 ghost use Rattle.m3_script.specs.Rules.{AllNamed};
 ghost use Rattle.m3_script.specs.declared.script.Mode.{Mode};
-ghost use Rattle.m3_script.specs.Scripts.{script_of};
+ghost use Rattle.m3_script.specs.ScriptText.{script_of};
 ghost use Rattle.m3_cmd.specs.declared.words.Form.{Form};
-ghost use Rattle.m3_cmd.specs.Outputs.{IsOutput};
-ghost use Rattle.m3_cmd.specs.Show.{AreNoPackets, ArePackets, IsBadByte, IsShown, WritesAll};
-ghost use Rattle.m3_cmd.specs.Words.{form_of, words_of};
-ghost use Rattle.m3_cmd.specs.Statuses.{usage_line, read_fault_line, too_long_line, bad_script_line, most_bytes, event_of, AreOfSetup, Follows, IsTextAt, IsTextOf, IsNoScript, WritesJournal, WritesSome, IsScript, IsAnswerTo, IsOneOf, OfBytes};
+ghost use Rattle.m3_cmd.specs.OutputContract.{HasNoneLeft, IsAnswer, IsComplete, IsInputAnswer, IsOutput, IsRunAnswer};
+ghost use Rattle.m3_cmd.specs.CommandLine.{Asks, IsNoForm};
+ghost use Rattle.m3_cmd.specs.Writing.{WritesAll, WritesAtMost, WritesSome};
+ghost use Rattle.m3_cmd.specs.Statuses.{most_bytes, AreOfSetup, Follows, IsTextAt, IsTextOf, IsOneOf, OfBytes};
 
 use crate::show::show_input;
 use crate::words::{Form, read_form};
@@ -30,8 +28,7 @@ const USAGE: &[u8] =
 
 /// Makes the events, one after the other.
 fn make(alloc: Global, machine: &mut Machine, events: Vec<Event>) -> Result<(), StepRefusal>
-    requires events { AreOfSetup machine.old.setup events.items }
-    requires kept { IsKept (site machine.old.setup) machine.old.machine }
+    requires { AreOfSetup machine.old.setup events.items }
     ensures { OnOk result (Follows machine.old events.items machine.new) }
 {
     for event in events {
@@ -73,12 +70,13 @@ pub fn finish<K: Sink>(sink: &mut K, bytes: &[u8], status: u8) -> u8
 /// Runs the script that these bytes are, and writes its journal.
 fn run_script<K: Sink>(alloc: Global, bytes: &[u8], sink: &mut K) -> u8
     requires { length bytes.now ≤ most_bytes }
-    ensures journal { result ≡ 0 → WritesJournal bytes.now (K.written sink.old) (K.written sink.new) }
-    ensures script { result ≡ 2 → IsNoScript bytes.now × Appends (K.written sink.old) (K.written sink.new) bad_script_line }
+    ensures output { result ≢ 4 → result ≢ 5 →
+        WritesAll (IsRunAnswer bytes.now result) (K.written sink.old) (K.written sink.new) }
     ensures write { result ≡ 4 → Rose (K.faults sink.old) (K.faults sink.new) }
-    ensures prefix { result ≡ 4 → WritesSome (IsAnswerTo bytes.now) (K.written sink.old) (K.written sink.new) }
-    ensures valid { IsScript bytes.now → IsOneOf (0 ∷ 4 ∷ 5 ∷ []) result }
-    ensures invalid { IsNoScript bytes.now → IsOneOf (2 ∷ 4 ∷ 5 ∷ []) result }
+    ensures prefix { result ≡ 4 →
+        WritesSome (IsRunAnswer bytes.now) (K.written sink.old) (K.written sink.new) }
+    ensures memory { result ≡ 5 →
+        WritesAtMost (IsRunAnswer bytes.now) (K.written sink.old) (K.written sink.new) }
     ensures statuses { IsOneOf (0 ∷ 2 ∷ 4 ∷ 5 ∷ []) result }
 {
     match parse(alloc, bytes, Mode::Run, 0) {
@@ -91,36 +89,67 @@ fn run_script<K: Sink>(alloc: Global, bytes: &[u8], sink: &mut K) -> u8
     }
 }
 
+/// Answers the bytes by the form, and writes the answer.
+fn write_answer<K: Sink>(alloc: Global, form: Form, bytes: &[u8], sink: &mut K) -> u8
+    requires { length bytes.now ≤ most_bytes }
+    ensures output { result ≢ 4 → result ≢ 5 →
+        WritesAll (IsAnswer form bytes.now result) (K.written sink.old) (K.written sink.new) }
+    ensures write { result ≡ 4 → Rose (K.faults sink.old) (K.faults sink.new) }
+    ensures prefix { result ≡ 4 →
+        WritesSome (IsAnswer form bytes.now) (K.written sink.old) (K.written sink.new) }
+    ensures memory { result ≡ 5 →
+        WritesAtMost (IsAnswer form bytes.now) (K.written sink.old) (K.written sink.new) }
+    ensures statuses { IsOneOf (0 ∷ 2 ∷ 4 ∷ 5 ∷ []) result }
+{
+    match form {
+        Form::Run => run_script(alloc, bytes, sink),
+        Form::Show => show_input(alloc, bytes, sink),
+    }
+}
+
 /// Does what the words ask for: reads the source, writes to the sink, and answers the status:
 ///
-/// - 0: the script was run, and its journal is written, or the packets were read, and their lines are;
-/// - 1: the words are no form, and the usage line is written;
-/// - 2: the input is no script, and `bad script` is written, or it is no packets, and the line of its first bad byte is;
+/// - 0: the script was run, and its journal is written, or the packets were read, and their lines
+///   are;
+/// - 1: the words are no form, and the usage line is written. The source isn't read;
+/// - 2: the input is no script, and `bad script` is written, or it is no packets, and the line of
+///   its first bad byte is;
 /// - 3: the source failed, and `read fault` is written;
-/// - 4: the sink failed, and a prefix of what was to be written is. It takes the place of any other status;
-/// - 5: no memory was left;
+/// - 4: the sink failed, and a prefix of what was to be written is. It takes the place of any
+///   other status;
+/// - 5: no memory was left, and nothing is written, or a prefix of the answer;
 /// - 8: the input has more than 1,048,576 bytes, and `too long` is written.
+///
+/// With 0 and 2 the source was read to its end.
 pub fn run_words<S: Source, K: Sink>(
     alloc: Global,
     words: &[String],
     source: &mut S,
     sink: &mut K,
 ) -> u8
-    ensures journal { form_of (words_of words.now) ≡ Some Form.Run → result ≡ 0 → OfBytes (S.left source.old) (λ bytes. WritesJournal bytes (K.written sink.old) (K.written sink.new)) }
-    ensures shown { form_of (words_of words.now) ≡ Some Form.Show → result ≡ 0 → OfBytes (S.left source.old) (λ bytes. WritesAll (IsShown bytes) (K.written sink.old) (K.written sink.new)) }
-    ensures usage { result ≡ 1 → (form_of (words_of words.now) ≡ None) × Appends (K.written sink.old) (K.written sink.new) usage_line }
-    ensures no_form { form_of (words_of words.now) ≡ None → (result ≡ 1) ⊎ (result ≡ 4) }
-    ensures script { form_of (words_of words.now) ≡ Some Form.Run → result ≡ 2 → OfBytes (S.left source.old) IsNoScript × Appends (K.written sink.old) (K.written sink.new) bad_script_line }
-    ensures bad_byte { form_of (words_of words.now) ≡ Some Form.Show → result ≡ 2 → OfBytes (S.left source.old) (λ bytes. AreNoPackets bytes × WritesAll (IsBadByte bytes) (K.written sink.old) (K.written sink.new)) }
-    ensures read { result ≡ 3 → Rose (S.faults source.old) (S.faults source.new) × Appends (K.written sink.old) (K.written sink.new) read_fault_line }
+    ensures output { result ≢ 4 → result ≢ 5 →
+        WritesAll (IsOutput words.now (Rose (S.faults source.old) (S.faults source.new))
+        (S.left source.old) (S.left source.new) result)
+        (K.written sink.old) (K.written sink.new) }
+    ensures prefix { result ≡ 4 →
+        WritesSome (IsOutput words.now (Rose (S.faults source.old) (S.faults source.new))
+        (S.left source.old) (S.left source.new))
+        (K.written sink.old) (K.written sink.new) }
+    ensures memory { result ≡ 5 →
+        WritesAtMost (IsInputAnswer words.now (S.left source.old) (S.left source.new))
+        (K.written sink.old) (K.written sink.new) }
+    ensures usage { result ≡ 1 → IsNoForm words.now }
+    ensures no_form { IsNoForm words.now → IsOneOf (1 ∷ 4 ∷ []) result }
+    ensures unread { IsNoForm words.now → source.new ≡ source.old }
+    ensures read { result ≡ 3 → Rose (S.faults source.old) (S.faults source.new) }
     ensures write { result ≡ 4 → Rose (K.faults sink.old) (K.faults sink.new) }
-    ensures prefix { result ≡ 4 → WritesSome (IsOutput (form_of (words_of words.now)) (Rose (S.faults source.old) (S.faults source.new)) (S.left source.old) (S.left source.new)) (K.written sink.old) (K.written sink.new) }
-    ensures long { result ≡ 8 → GivesMore (S.left source.old) (S.left source.new) most_bytes × Appends (K.written sink.old) (K.written sink.new) too_long_line }
-    ensures within { form_of (words_of words.now) ≢ None → result ≢ 4 → result ≢ 8 → GivesUpTo (S.left source.old) (S.left source.new) most_bytes }
-    ensures complete { form_of (words_of words.now) ≡ Some Form.Run → OfBytes (S.left source.old) (λ bytes. IsScript bytes → length bytes ≤ most_bytes → IsOneOf (0 ∷ 3 ∷ 4 ∷ 5 ∷ []) result) }
-    ensures refused { form_of (words_of words.now) ≡ Some Form.Run → OfBytes (S.left source.old) (λ bytes. IsNoScript bytes → length bytes ≤ most_bytes → IsOneOf (2 ∷ 3 ∷ 4 ∷ 5 ∷ []) result) }
-    ensures packets { form_of (words_of words.now) ≡ Some Form.Show → OfBytes (S.left source.old) (λ bytes. ArePackets bytes → length bytes ≤ most_bytes → IsOneOf (0 ∷ 3 ∷ 4 ∷ 5 ∷ []) result) }
-    ensures no_packets { form_of (words_of words.now) ≡ Some Form.Show → OfBytes (S.left source.old) (λ bytes. AreNoPackets bytes → length bytes ≤ most_bytes → IsOneOf (2 ∷ 3 ∷ 4 ∷ 5 ∷ []) result) }
+    ensures long { result ≡ 8 → GivesMore (S.left source.old) (S.left source.new) most_bytes }
+    ensures within { result ≢ 4 → result ≢ 8 →
+        GivesUpTo (S.left source.old) (S.left source.new) most_bytes }
+    ensures whole { IsOneOf (0 ∷ 2 ∷ []) result →
+        HasNoneLeft (S.left source.old) (S.left source.new) }
+    ensures complete { (form : Form) → Asks words.now form →
+        OfBytes (S.left source.old) (λ bytes. IsComplete form bytes result) }
     ensures statuses { IsOneOf (0 ∷ 1 ∷ 2 ∷ 3 ∷ 4 ∷ 5 ∷ 8 ∷ []) result }
 {
     match read_form(words) {
@@ -129,10 +158,7 @@ pub fn run_words<S: Source, K: Sink>(
             Err(ReadRefusal::ReadFault) => finish(sink, b"read fault\n", 3),
             Err(ReadRefusal::TooLong) => finish(sink, b"too long\n", 8),
             Err(ReadRefusal::NoMemory) => 5,
-            Ok(bytes) => match form {
-                Form::Run => run_script(alloc, bytes.as_slice(), sink),
-                Form::Show => show_input(alloc, bytes.as_slice(), sink),
-            },
+            Ok(bytes) => write_answer(alloc, form, bytes.as_slice(), sink),
         },
     }
 }

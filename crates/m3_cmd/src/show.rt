@@ -1,10 +1,11 @@
 //! Packets are shown as lines.
 
 ghost use Rattle.std.specs.Prelude.{◌≡◌, ◌≢◌, ◌+◌, ◌<◌, ◌≤◌, ◌∷◌, ◌++◌, [], length, IfOk, IfErr, OnOk, string_bytes};
-ghost use Rattle.m3_base.specs.Causes.{Rose};
+ghost use Rattle.m3_base.specs.Io.Streams.{Rose};
 ghost use Rattle.m3_cmd.specs.declared.show.ShowRefusal.TheVariants as ShowRefusal;
-ghost use Rattle.m3_cmd.specs.Statuses.{IsOneOf, WritesSome, most_bytes};
-ghost use Rattle.m3_cmd.specs.Show.{AreNoPackets, ArePackets, IsBadByte, IsNamed, IsNext, IsNone, IsRefusalLine, IsShowAnswer, IsShown, IsWhy, WritesAll, bad_byte_line, kind_word, packet_line, place_of, refused_after};
+ghost use Rattle.m3_cmd.specs.Statuses.{IsOneOf, most_bytes};
+ghost use Rattle.m3_cmd.specs.ShowContract.{IsNamed, IsNext, IsNone, IsRefusalLine, IsShowAnswer, IsShown, IsWhy, bad_byte_line, kind_word, packet_line, place_of, refused_after};
+ghost use Rattle.m3_cmd.specs.Writing.{WritesAll, WritesAtMost, WritesSome};
 
 use crate::run::finish;
 use m3_base::packet::Packet;
@@ -108,9 +109,13 @@ fn bad_byte_line(alloc: Global, before: usize, refusal: WireRefusal) -> Result<S
 /// Writes the line of bytes that aren't shown.
 fn refuse<K: Sink>(alloc: Global, why: ShowRefusal, sink: &mut K) -> u8
     requires { IsNamed why }
-    ensures bad { result ≡ 2 → WritesAll (IsRefusalLine why) (K.written sink.old) (K.written sink.new) }
+    ensures output { result ≢ 4 → result ≢ 5 →
+        WritesAll (IsRefusalLine why result) (K.written sink.old) (K.written sink.new) }
     ensures write { result ≡ 4 → Rose (K.faults sink.old) (K.faults sink.new) }
-    ensures prefix { result ≡ 4 → WritesSome (IsRefusalLine why) (K.written sink.old) (K.written sink.new) }
+    ensures prefix { result ≡ 4 →
+        WritesSome (IsRefusalLine why) (K.written sink.old) (K.written sink.new) }
+    ensures memory { result ≡ 5 →
+        WritesAtMost (IsRefusalLine why) (K.written sink.old) (K.written sink.new) }
     ensures statuses { IsOneOf (2 ∷ 4 ∷ 5 ∷ []) result }
 {
     match why {
@@ -125,12 +130,13 @@ fn refuse<K: Sink>(alloc: Global, why: ShowRefusal, sink: &mut K) -> u8
 /// Shows the packets that these bytes are, or writes the first byte that is bad.
 pub fn show_input<K: Sink>(alloc: Global, bytes: &[u8], sink: &mut K) -> u8
     requires { length bytes.now ≤ most_bytes }
-    ensures shown { result ≡ 0 → WritesAll (IsShown bytes.now) (K.written sink.old) (K.written sink.new) }
-    ensures bad { result ≡ 2 → AreNoPackets bytes.now × WritesAll (IsBadByte bytes.now) (K.written sink.old) (K.written sink.new) }
+    ensures output { result ≢ 4 → result ≢ 5 →
+        WritesAll (IsShowAnswer bytes.now result) (K.written sink.old) (K.written sink.new) }
     ensures write { result ≡ 4 → Rose (K.faults sink.old) (K.faults sink.new) }
-    ensures prefix { result ≡ 4 → WritesSome (IsShowAnswer bytes.now) (K.written sink.old) (K.written sink.new) }
-    ensures valid { ArePackets bytes.now → IsOneOf (0 ∷ 4 ∷ 5 ∷ []) result }
-    ensures invalid { AreNoPackets bytes.now → IsOneOf (2 ∷ 4 ∷ 5 ∷ []) result }
+    ensures prefix { result ≡ 4 →
+        WritesSome (IsShowAnswer bytes.now) (K.written sink.old) (K.written sink.new) }
+    ensures memory { result ≡ 5 →
+        WritesAtMost (IsShowAnswer bytes.now) (K.written sink.old) (K.written sink.new) }
     ensures statuses { IsOneOf (0 ∷ 2 ∷ 4 ∷ 5 ∷ []) result }
 {
     match lines_of(alloc, bytes) {

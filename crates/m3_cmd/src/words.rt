@@ -1,7 +1,7 @@
 //! The words of the command line.
 
 ghost use Rattle.std.specs.Prelude.{◌≡◌};
-ghost use Rattle.m3_cmd.specs.Words.{form_of, words_of};
+ghost use Rattle.m3_cmd.specs.CommandLine.{form_of, words_of};
 
 /// What a list of words asks for.
 #[derive(Clone, Copy, Debug, PartialEq, Eq, Drop)]

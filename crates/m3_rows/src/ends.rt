@@ -1,7 +1,7 @@
 //! What is written, and the status, for words that are no form, for input that is too long, and where an end fails.
 
 use crate::runs::{expect_written, words_of};
-use m3_base::memory_ends::{BytesSink, BytesSource, SureSink};
+use m3_base::memory_streams::{BytesSink, BytesSource, InfallibleSink};
 use m3_cmd::run_words;
 use std::alloc::AllocError;
 
@@ -41,7 +41,7 @@ fn read_fault(rt: HostRuntime) -> Result<(), AllocError> {
     for call in [1, 2] {
         let input = Vec::from_slice(alloc, SCRIPT)?;
         let mut source = BytesSource::new(input, 20, Vec::from_slice(alloc, &[call])?);
-        let mut sink = SureSink::new(alloc, 4096, 7)?;
+        let mut sink = InfallibleSink::new(alloc, 4096, 7)?;
         let status = run_words(alloc, words.as_slice(), &mut source, &mut sink);
         assert_eq!(rt; status, 3);
         assert_eq!(rt; sink.bytes(), Some(b"read fault\n".as_slice()));
@@ -52,15 +52,18 @@ fn read_fault(rt: HostRuntime) -> Result<(), AllocError> {
 #[test]
 fn write_fault(rt: HostRuntime) -> Result<(), AllocError> {
     let alloc = rt.alloc();
-    for (word, room, prefix) in [
-        ("run", 0, b"".as_slice()),
-        ("run", 20, b"m3x journal 1\nmachin".as_slice()),
-        ("walk", 5, b"usage".as_slice()),
+    for (word, room, most, fails, prefix) in [
+        ("run", 0, 3, [].as_slice(), b"".as_slice()),
+        ("run", 20, 3, &[], b"m3x journal 1\nmachin"),
+        ("walk", 5, 3, &[], b"usage"),
+        // whole calls of 16 bytes, and the second fails
+        ("run", 4096, 16, &[2], b"m3x journal 1\nma"),
+        ("run", 4096, 16, &[1], b""),
     ] {
         let words = words_of(alloc, &[word])?;
         let input = Vec::from_slice(alloc, SCRIPT)?;
         let mut source = BytesSource::new(input, 1000, Vec::new(alloc));
-        let mut sink = BytesSink::new(alloc, room, 3, Vec::new(alloc))?;
+        let mut sink = BytesSink::new(alloc, room, most, Vec::from_slice(alloc, fails)?)?;
         let status = run_words(alloc, words.as_slice(), &mut source, &mut sink);
         assert_eq!(rt; status, 4);
         assert_eq!(rt; sink.bytes(), prefix);

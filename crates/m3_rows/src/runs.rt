@@ -1,6 +1,6 @@
 //! A run of the program: what it writes, by the setup, the events with their outcomes, and the closing lines.
 
-use m3_base::memory_ends::{BytesSource, SureSink};
+use m3_base::memory_streams::{BytesSource, InfallibleSink};
 use m3_cmd::run_words;
 use std::alloc::{AllocError, Global};
 use std::process::Abort;
@@ -25,7 +25,7 @@ pub fn expect_written(
 ) -> Result<(), AllocError> {
     let words = words_of(alloc, words)?;
     let mut source = BytesSource::new(input, 1000, Vec::new(alloc));
-    let mut sink = SureSink::new(alloc, 16384, 7)?;
+    let mut sink = InfallibleSink::new(alloc, 16384, 7)?;
     let answer = run_words(alloc, words.as_slice(), &mut source, &mut sink);
     assert_eq!(rt; answer, status);
     assert_eq!(rt; sink.bytes(), Some(written));

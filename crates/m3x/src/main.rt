@@ -1,7 +1,7 @@
 //! m3x: a machine of tiles, run by a script.
 #![tactic(auto)]
 
-use m3_base::standard_ends::{ReaderSource, WriterSink};
+use m3_base::standard_streams::{ReaderSource, WriterSink};
 use m3_cmd::run_words;
 use std::alloc::AllocError;
 use std::process::ExitCode;

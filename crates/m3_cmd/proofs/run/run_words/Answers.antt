@@ -1,43 +1,80 @@
-use Rattle.std.proofs.Common.{◌≡◌, ◌≤◌, ℕ, List, [], ◌∷◌, length, Option, Some, inl, inr, sym, subst, ap, ◌∙◌}
-use Rattle.m3_base.specs.Causes.{Rose}
-use Rattle.m3_cmd.specs.declared.words.Form.{Form}
-use Rattle.m3_cmd.specs.Statuses.{WritesJournal, WritesSome, IsScript, IsNoScript, IsAnswerTo, IsOneOf}
-use Rattle.m3_cmd.specs.Outputs.{IsOutput}
-use Rattle.m3_cmd.proofs.Following.{told_all}
+use Rattle.std.proofs.Common.{◌∷◌, [], refl, rules, sym, inl, inr, ◌∙◌}
+use Rattle.m3_base.specs.Io.Streams.{GivesMore, Rose}
+use Rattle.m3_cmd.specs.OutputContract.{IsAnswer, IsInputAnswer, IsOutput}
+use Rattle.m3_cmd.specs.Statuses.{IsOneOf, read_fault_line, too_long_line, usage_line}
+use Rattle.m3_cmd.proofs.Outputs.{all_more, faulty_complete, finish_some, gives_none, input_answer, input_complete, long_complete, most_more, no_form, none_left, some_more}
+use Rattle.m3_base.proofs.StreamLoops.{none_appended as appends_none}
 use Rattle.m3_cmd.proofs.run.run_words.Goals as goal
 
--- one status more may come
-more_valid : (n : ℕ) → IsOneOf (0 ∷ 4 ∷ 5 ∷ []) n → IsOneOf (0 ∷ 3 ∷ 4 ∷ 5 ∷ []) n
-more_valid n (inl e) = inl e
-more_valid n (inr k) = inr (inr k)
+-- ---- no form
 
-more_invalid : (n : ℕ) → IsOneOf (2 ∷ 4 ∷ 5 ∷ []) n → IsOneOf (2 ∷ 3 ∷ 4 ∷ 5 ∷ []) n
-more_invalid n (inl e) = inl e
-more_invalid n (inr k) = inr (inr k)
+pub returns-in-None-clause-prefix : goal.returns-in-None-clause-prefix
+returns-in-None-clause-prefix g c = λ four.
+    finish_some (IsOutput c.args.words.now _ _ _) 1 usage_line _ _ (inl (sym c.read_form.ensures ∙ c.in-None.is, refl, refl)) (c.finish.ensures.fault (λ e. cc) four).1
 
-pub returns-in-Run-clause-journal : goal.returns-in-Run-clause-journal
-returns-in-Run-clause-journal g c form zero =
-    told_all (λ bytes. WritesJournal bytes (g.K.Sink.written c.args.sink.now) (g.K.Sink.written c.run_script.new.sink)) (g.S.Source.left c.args.source.now) _ c.in-Ok.bytes.items c.as_slice.result.now
-    c.in-Ok.ensures.all c.as_slice.ensures.value (c.run_script.ensures.journal zero)
+pub returns-in-None-clause-within : goal.returns-in-None-clause-within
+returns-in-None-clause-within g c = λ not_four not_eight. gives_none (g.S.Source.left c.args.source.now) 1048576
 
-pub returns-in-Run-clause-complete : goal.returns-in-Run-clause-complete
-returns-in-Run-clause-complete g c form =
-    told_all (λ bytes. IsScript bytes → length bytes ≤ 1048576 → IsOneOf (0 ∷ 3 ∷ 4 ∷ 5 ∷ []) c.run_script.result) (g.S.Source.left c.args.source.now) _ c.in-Ok.bytes.items c.as_slice.result.now
-    c.in-Ok.ensures.all c.as_slice.ensures.value (λ script few. more_valid c.run_script.result (c.run_script.ensures.valid script))
+pub returns-in-None-clause-complete : goal.returns-in-None-clause-complete
+returns-in-None-clause-complete g c = λ form asks. no_form c.args.words.now form _ (sym c.read_form.ensures ∙ c.in-None.is) asks
 
-pub returns-in-Run-clause-refused : goal.returns-in-Run-clause-refused
-returns-in-Run-clause-refused g c form =
-    told_all (λ bytes. IsNoScript bytes → length bytes ≤ 1048576 → IsOneOf (2 ∷ 3 ∷ 4 ∷ 5 ∷ []) c.run_script.result) (g.S.Source.left c.args.source.now) _ c.in-Ok.bytes.items c.as_slice.result.now
-    c.in-Ok.ensures.all c.as_slice.ensures.value (λ none few. more_invalid c.run_script.result (c.run_script.ensures.invalid none))
+-- ---- the source fails, or gives too much
 
-pub returns-in-Run-clause-prefix : goal.returns-in-Run-clause-prefix
-returns-in-Run-clause-prefix g c four =
-    let some = c.run_script.ensures.prefix four in
-    record {
-      text = some.text;
-      output =
-          subst (λ (form : Option Form). IsOutput form (Rose (g.S.Source.faults c.args.source.now) (g.S.Source.faults c.read_all.new.source)) (g.S.Source.left c.args.source.now) (g.S.Source.left c.read_all.new.source) some.text) (sym (c.in-Some.is ∙ ap (λ (f : Form). Some f) c.in-Run.is) ∙ c.read_form.ensures) (
-          inr (inr (told_all (λ bytes. IsAnswerTo bytes some.text) (g.S.Source.left c.args.source.now) _ c.in-Ok.bytes.items c.as_slice.result.now c.in-Ok.ensures.all c.as_slice.ensures.value some.output))
-          );
-      part = some.part;
-    }
+pub returns-in-Err-ReadFault-clause-prefix : goal.returns-in-Err-ReadFault-clause-prefix
+returns-in-Err-ReadFault-clause-prefix g c = λ four.
+    finish_some (IsOutput c.args.words.now (Rose (g.S.Source.faults c.args.source.now) (g.S.Source.faults c.read_all.new.source)) _ _) 3 read_fault_line _ _
+    (inr (inl (c.in-Some.form, sym c.read_form.ensures ∙ c.in-Some.is, (let rose : Rose (g.S.Source.faults c.args.source.now) (g.S.Source.faults c.read_all.new.source) = search rules in rose), refl, refl)))
+    (c.finish-in-Err-ReadFault.ensures.fault (λ e. cc) four).1
+
+pub returns-in-Err-ReadFault-clause-complete : goal.returns-in-Err-ReadFault-clause-complete
+returns-in-Err-ReadFault-clause-complete g c = λ form asks.
+    faulty_complete form (g.S.Source.left c.args.source.now) c.finish-in-Err-ReadFault.result (let fault : IsOneOf (3 ∷ 4 ∷ 5 ∷ []) c.finish-in-Err-ReadFault.result = search rules in fault)
+
+pub returns-in-Err-TooLong-clause-prefix : goal.returns-in-Err-TooLong-clause-prefix
+returns-in-Err-TooLong-clause-prefix g c = λ four.
+    finish_some (IsOutput c.args.words.now _ (g.S.Source.left c.args.source.now) (g.S.Source.left c.read_all.new.source)) 8 too_long_line _ _
+    (inr (inr (inl (c.in-Some.form, sym c.read_form.ensures ∙ c.in-Some.is, (let long : GivesMore (g.S.Source.left c.args.source.now) (g.S.Source.left c.read_all.new.source) 1048576 = search rules in long), refl, refl))))
+    (c.finish-in-Err-TooLong.ensures.fault (λ e. cc) four).1
+
+pub returns-in-Err-TooLong-clause-complete : goal.returns-in-Err-TooLong-clause-complete
+returns-in-Err-TooLong-clause-complete g c = λ form asks.
+    long_complete form (g.S.Source.left c.args.source.now) (g.S.Source.left c.read_all.new.source) c.finish-in-Err-TooLong.result (let long : GivesMore (g.S.Source.left c.args.source.now) (g.S.Source.left c.read_all.new.source) 1048576 = search rules in long)
+
+pub returns-in-Err-NoMemory-clause-memory : goal.returns-in-Err-NoMemory-clause-memory
+returns-in-Err-NoMemory-clause-memory g c = λ five. inl (appends_none (g.K.Sink.written c.args.sink.now))
+
+pub returns-in-Err-NoMemory-clause-complete : goal.returns-in-Err-NoMemory-clause-complete
+returns-in-Err-NoMemory-clause-complete g c = λ form asks. faulty_complete form (g.S.Source.left c.args.source.now) 5 (inr (inr (inl refl)))
+
+-- ---- the bytes are answered
+
+pub returns-in-Ok-clause-output : goal.returns-in-Ok-clause-output
+returns-in-Ok-clause-output g c = λ not_four not_five.
+    all_more (IsAnswer c.in-Some.form c.as_slice.result.now c.write_answer.result) (IsOutput c.args.words.now _ (g.S.Source.left c.args.source.now) (g.S.Source.left c.read_all.new.source) c.write_answer.result) _ _
+    (λ text is. inr (inr (inr (
+    input_answer c.args.words.now (g.S.Source.left c.args.source.now) (g.S.Source.left c.read_all.new.source) c.in-Some.form c.in-Ok.bytes.items c.as_slice.result.now
+    (sym c.read_form.ensures ∙ c.in-Some.is) c.in-Ok.ensures.all c.as_slice.ensures.value c.in-Ok.ensures.within c.write_answer.result text is))))
+    (c.write_answer.ensures.output not_four not_five)
+
+pub returns-in-Ok-clause-prefix : goal.returns-in-Ok-clause-prefix
+returns-in-Ok-clause-prefix g c = λ four.
+    some_more (IsAnswer c.in-Some.form c.as_slice.result.now) (IsOutput c.args.words.now _ (g.S.Source.left c.args.source.now) (g.S.Source.left c.read_all.new.source)) _ _
+    (λ status text is. inr (inr (inr (
+    input_answer c.args.words.now (g.S.Source.left c.args.source.now) (g.S.Source.left c.read_all.new.source) c.in-Some.form c.in-Ok.bytes.items c.as_slice.result.now
+    (sym c.read_form.ensures ∙ c.in-Some.is) c.in-Ok.ensures.all c.as_slice.ensures.value c.in-Ok.ensures.within status text is))))
+    (c.write_answer.ensures.prefix four)
+
+pub returns-in-Ok-clause-memory : goal.returns-in-Ok-clause-memory
+returns-in-Ok-clause-memory g c = λ five.
+    most_more (IsAnswer c.in-Some.form c.as_slice.result.now) (IsInputAnswer c.args.words.now (g.S.Source.left c.args.source.now) (g.S.Source.left c.read_all.new.source)) _ _
+    (input_answer c.args.words.now (g.S.Source.left c.args.source.now) (g.S.Source.left c.read_all.new.source) c.in-Some.form c.in-Ok.bytes.items c.as_slice.result.now
+    (sym c.read_form.ensures ∙ c.in-Some.is) c.in-Ok.ensures.all c.as_slice.ensures.value c.in-Ok.ensures.within)
+    (c.write_answer.ensures.memory five)
+
+pub returns-in-Ok-clause-whole : goal.returns-in-Ok-clause-whole
+returns-in-Ok-clause-whole g c = λ one. none_left (g.S.Source.left c.args.source.now) (g.S.Source.left c.read_all.new.source) c.in-Ok.bytes.items c.in-Ok.ensures.all
+
+pub returns-in-Ok-clause-complete : goal.returns-in-Ok-clause-complete
+returns-in-Ok-clause-complete g c = λ form asks.
+    input_complete c.args.words.now (g.S.Source.left c.args.source.now) (g.S.Source.left c.read_all.new.source) c.in-Some.form form c.in-Ok.bytes.items c.as_slice.result.now c.write_answer.result _ _
+    (sym c.read_form.ensures ∙ c.in-Some.is) asks c.in-Ok.ensures.all c.as_slice.ensures.value c.write_answer.ensures.output c.write_answer.ensures.statuses

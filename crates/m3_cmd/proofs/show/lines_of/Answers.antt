@@ -1,5 +1,5 @@
 use Rattle.std.proofs.Common.{◌<◌, ◌-◌, refl, length, rules, string_bytes}
-use Rattle.m3_cmd.proofs.Showing.{next, why}
+use Rattle.m3_cmd.proofs.PacketsShown.{next, why}
 use Rattle.m3_cmd.proofs.show.lines_of.Goals as goal
 
 pub loop-rest-preserved : goal.loop-rest-preserved

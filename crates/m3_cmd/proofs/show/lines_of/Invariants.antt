@@ -1,5 +1,5 @@
 use Rattle.std.proofs.Common.{length, string_bytes}
-use Rattle.m3_cmd.proofs.Showing.{Shows}
+use Rattle.m3_cmd.proofs.PacketsShown.{Shows}
 use Rattle.m3_cmd.proofs.show.lines_of.Given as goal
 
 abbrev pub invariant-loop-rest : goal.invariant-loop-rest

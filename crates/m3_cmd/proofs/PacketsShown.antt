@@ -1,5 +1,5 @@
 -- Packets shown one after the other.
-use Rattle.std.proofs.Common.{◌≡◌, ℕ, zero, suc, ◌+◌, ◌-◌, ◌<◌, ◌≤◌, List, [], ◌∷◌, ◌++◌, length, take, drop, map, Option, Err, refl, sym, ap, subst, ◌∙◌, arith, append_assoc, length-append, length-drop, inr}
+use Rattle.std.proofs.Common.{◌≡◌, ℕ, zero, suc, ◌+◌, ◌-◌, ◌<◌, ◌≤◌, List, [], ◌∷◌, ◌++◌, length, take, drop, map, Err, refl, sym, ap, subst, ◌∙◌, arith, append_assoc, length-append, length-drop, inr}
 use Rattle.std.proofs.lemmas.List.{take_all, take-append-drop, append-nil, drop_at}
 use Rattle.m3_base.specs.declared.packet.Packet.{Packet}
 use Rattle.m3_text.specs.Printing.{text_of_lines}
@@ -7,8 +7,7 @@ use Rattle.m3_wire.specs.Grammar.{IsFirst, Refuses, IsRead, TakesNone}
 use Rattle.m3_wire.specs.Packets.{IsPacket, packet_part}
 use Rattle.m3_wire.specs.declared.refusal.WireRefusal.{WireRefusal}
 use Rattle.m3_cmd.specs.declared.show.ShowRefusal.{ShowRefusal}
-use Rattle.m3_cmd.specs.Statuses.{WritesSome}
-use Rattle.m3_cmd.specs.Show.{AreSpelled, AreNoPackets, IsRefusalLine, IsShowAnswer, IsShown, IsRefusedAfter, IsNext, IsWhy, packet_line, place_of, refused_after}
+use Rattle.m3_cmd.specs.ShowContract.{AreSpelled, AreNoPackets, IsRefusalLine, IsShowAnswer, IsShown, IsRefusedAfter, IsNext, IsWhy, packet_line, place_of, refused_after}
 
 abbrev pub lines : List Packet → List ℕ
 lines ps = text_of_lines (map packet_line ps)
@@ -89,8 +88,8 @@ abbrev pub Never : List ℕ → WireRefusal → Type 0
 Never rest e = (q : Packet) (text more : List ℕ) → IsPacket q text → rest ≡ text ++ more → IsRead {X = Packet × ℕ} (Err e) (q, length text)
 
 refused : (bytes out rest : List ℕ) (before : ℕ) (e : WireRefusal) → Shows bytes out rest → 0 < length rest → before ≡ length bytes - length rest → TakesNone e
-    → Refuses IsPacket packet_part rest e → IsRefusedAfter bytes before e
-refused bytes out rest before e s some place named refuses = record {
+    → Refuses IsPacket packet_part rest e → ((q : Packet) (text more : List ℕ) → IsPacket q text → rest ≡ text ++ more → ⊥) → IsRefusedAfter bytes before e
+refused bytes out rest before e s some place named refuses none = record {
   packets = s.packets;
   front = s.front;
   rest = rest;
@@ -98,6 +97,7 @@ refused bytes out rest before e s some place named refuses = record {
   spelled = s.spelled;
   place = omega (arith, ap length s.parts, length-append s.front rest);
   some = some;
+  none = none;
   refuses = refuses;
   named = named;
 }
@@ -106,15 +106,15 @@ pub why : (bytes out rest : List ℕ) (before : ℕ) (e : WireRefusal) → Shows
     → Refuses IsPacket packet_part rest e → Never rest e → IsWhy bytes (refused_after before e)
 why bytes out rest before WireRefusal.NoMemory s some place refuses never = tt
 why bytes out rest before (WireRefusal.Short at) s some place refuses never =
-    (none_read bytes rest (WireRefusal.Short at) (λ e. cc) some s.only never, refused bytes out rest before (WireRefusal.Short at) s some place (λ e. cc) refuses)
+    (none_read bytes rest (WireRefusal.Short at) (λ e. cc) some s.only never, refused bytes out rest before (WireRefusal.Short at) s some place (λ e. cc) refuses never)
 why bytes out rest before (WireRefusal.BadKind at) s some place refuses never =
-    (none_read bytes rest (WireRefusal.BadKind at) (λ e. cc) some s.only never, refused bytes out rest before (WireRefusal.BadKind at) s some place (λ e. cc) refuses)
+    (none_read bytes rest (WireRefusal.BadKind at) (λ e. cc) some s.only never, refused bytes out rest before (WireRefusal.BadKind at) s some place (λ e. cc) refuses never)
 why bytes out rest before (WireRefusal.BadFlags at) s some place refuses never =
-    (none_read bytes rest (WireRefusal.BadFlags at) (λ e. cc) some s.only never, refused bytes out rest before (WireRefusal.BadFlags at) s some place (λ e. cc) refuses)
+    (none_read bytes rest (WireRefusal.BadFlags at) (λ e. cc) some s.only never, refused bytes out rest before (WireRefusal.BadFlags at) s some place (λ e. cc) refuses never)
 why bytes out rest before (WireRefusal.BadReserved at) s some place refuses never =
-    (none_read bytes rest (WireRefusal.BadReserved at) (λ e. cc) some s.only never, refused bytes out rest before (WireRefusal.BadReserved at) s some place (λ e. cc) refuses)
+    (none_read bytes rest (WireRefusal.BadReserved at) (λ e. cc) some s.only never, refused bytes out rest before (WireRefusal.BadReserved at) s some place (λ e. cc) refuses never)
 why bytes out rest before (WireRefusal.BadField at) s some place refuses never =
-    (none_read bytes rest (WireRefusal.BadField at) (λ e. cc) some s.only never, refused bytes out rest before (WireRefusal.BadField at) s some place (λ e. cc) refuses)
+    (none_read bytes rest (WireRefusal.BadField at) (λ e. cc) some s.only never, refused bytes out rest before (WireRefusal.BadField at) s some place (λ e. cc) refuses never)
 
 -- the refused byte is one of those behind the packets, or their end
 place_small : (rest : List ℕ) (e : WireRefusal) → Refuses IsPacket packet_part rest e → place_of e ≤ length rest
@@ -136,7 +136,6 @@ pub next_within : (out rest out' : List ℕ) (n : ℕ) → IsNext out out' rest 
 next_within out rest out' n x = (takes_some rest x.packet n x.first, x.first.0)
 
 -- the line of bytes that aren't shown is an answer to them
-pub answers : (bytes : List ℕ) (e : ShowRefusal) (old new : Option (List ℕ)) → IsWhy bytes e → WritesSome (IsRefusalLine e) old new → WritesSome (IsShowAnswer bytes) old new
-answers bytes ShowRefusal.NoMemory old new w s = absurd s.output
-answers bytes (ShowRefusal.Bad before refusal) old new w s =
-    record { text = s.text; output = inr (w.0, record { before = before; refusal = refusal; refused = w.1; is_text = s.output }); part = s.part }
+pub answers : (bytes : List ℕ) (e : ShowRefusal) → IsWhy bytes e → (status : ℕ) (text : List ℕ) → IsRefusalLine e status text → IsShowAnswer bytes status text
+answers bytes ShowRefusal.NoMemory w status text is = absurd is
+answers bytes (ShowRefusal.Bad before refusal) w status text is = inr (is.0, w.0, record { before = before; refusal = refusal; refused = w.1; is_text = is.1 })

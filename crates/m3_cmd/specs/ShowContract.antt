@@ -1,7 +1,6 @@
 -- What the words `show` answer to bytes.
-use Rattle.std.specs.Prelude.{◌≡◌, ◌⊎◌, ℕ, ◌+◌, ◌<◌, ◌≤◌, List, [], ◌∷◌, ◌++◌, map, length, Option, Err, codes, decimal, ⊤}
+use Rattle.std.specs.Prelude.{◌≡◌, ◌⊎◌, ℕ, ◌+◌, ◌<◌, ◌≤◌, List, [], ◌∷◌, ◌++◌, map, length, Err, codes, decimal, ⊤}
 use Rattle.m3_base.specs.declared.packet.Packet.{Packet}
-use Rattle.m3_base.specs.Causes.{Appends}
 use Rattle.m3_text.specs.Printing.{line_text, text_of_lines}
 use Rattle.m3_journal.specs.Packets.{packet_words}
 use Rattle.m3_wire.specs.Grammar.{IsFirst, IsRead, Refuses, TakesNone}
@@ -30,7 +29,7 @@ ArePackets bytes = (packets : List Packet) × AreSpelled packets bytes
 abbrev pub AreNoPackets : List ℕ → Type 0
 AreNoPackets bytes = (packets : List Packet) → AreSpelled packets bytes → ⊥
 
--- behind so many bytes, which are packets, others stand that this refusal refuses
+-- behind so many bytes, which are packets, others stand that no packet begins and that this refusal refuses
 pub record IsRefusedAfter (bytes : List ℕ) (before : ℕ) (refusal : WireRefusal) : Type 0 where
   pub packets : List Packet
   pub front : List ℕ
@@ -39,6 +38,7 @@ pub record IsRefusedAfter (bytes : List ℕ) (before : ℕ) (refusal : WireRefus
   pub spelled : AreSpelled packets front
   pub place : before ≡ length front
   pub some : 0 < length rest
+  pub none : (q : Packet) (text more : List ℕ) → IsPacket q text → rest ≡ text ++ more → ⊥
   pub refuses : Refuses IsPacket packet_part rest refusal
   pub named : TakesNone refusal
 
@@ -69,9 +69,11 @@ pub record IsBadByte (bytes text : List ℕ) : Type 0 where
   pub refused : IsRefusedAfter bytes before refusal
   pub is_text : text ≡ bad_byte_line before refusal
 
--- what is answered to these bytes
-abbrev pub IsShowAnswer : List ℕ → List ℕ → Type 0
-IsShowAnswer bytes text = IsShown bytes text ⊎ (AreNoPackets bytes × IsBadByte bytes text)
+-- with 0 the packets' lines, with 2 the line of the first byte at which the bytes are no packets
+abbrev pub IsShowAnswer : List ℕ → ℕ → List ℕ → Type 0
+IsShowAnswer bytes status text =
+    ((status ≡ 0) × IsShown bytes text)
+    ⊎ ((status ≡ 2) × AreNoPackets bytes × IsBadByte bytes text)
 
 abbrev pub refused_after : ℕ → WireRefusal → ShowRefusal
 refused_after before (WireRefusal.Short at) = ShowRefusal.Bad before (WireRefusal.Short at)
@@ -86,10 +88,10 @@ abbrev pub IsNamed : ShowRefusal → Type 0
 IsNamed ShowRefusal.NoMemory = ⊤
 IsNamed (ShowRefusal.Bad before refusal) = before + place_of refusal ≤ most_bytes
 
--- the line of bytes that aren't shown
-abbrev pub IsRefusalLine : ShowRefusal → List ℕ → Type 0
-IsRefusalLine ShowRefusal.NoMemory text = ⊥
-IsRefusalLine (ShowRefusal.Bad before refusal) text = text ≡ bad_byte_line before refusal
+-- with 2 the line of bytes that aren't shown
+abbrev pub IsRefusalLine : ShowRefusal → ℕ → List ℕ → Type 0
+IsRefusalLine ShowRefusal.NoMemory status text = ⊥
+IsRefusalLine (ShowRefusal.Bad before refusal) status text = (status ≡ 2) × (text ≡ bad_byte_line before refusal)
 
 -- the first n bytes are a packet, and its line is put
 pub record IsNext (old new rest : List ℕ) (n : ℕ) : Type 0 where
@@ -107,9 +109,3 @@ pub record IsNone (rest : List ℕ) (e : WireRefusal) : Type 0 where
 abbrev pub IsWhy : List ℕ → ShowRefusal → Type 0
 IsWhy bytes ShowRefusal.NoMemory = ⊤
 IsWhy bytes (ShowRefusal.Bad before refusal) = AreNoPackets bytes × IsRefusedAfter bytes before refusal
-
--- such a text is written, the whole of it
-pub record WritesAll (Is : List ℕ → Type 0) (old new : Option (List ℕ)) : Type 0 where
-  pub text : List ℕ
-  pub output : Is text
-  pub written : Appends old new text
