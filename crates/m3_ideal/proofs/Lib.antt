@@ -1,0 +1,9 @@
+mod Places
+mod Landing
+mod Tables
+mod Seats
+mod Lanes
+mod FlightTables
+mod Tally
+mod Marking
+mod Changes

@@ -1,0 +1,13 @@
+-- What a call does at the context of an activity.
+use Rattle.std.specs.Prelude.{◌≡◌, List, Option, Some, None}
+use Rattle.m3_base.specs.Ideal.Context.{Context}
+use Rattle.m3_base.specs.Ideal.State.{put_context}
+
+-- it is there, and becomes one of which P holds
+abbrev pub AtContext : Option Context → List Context → List Context → (Context → Context → Type 0) → Type 0
+AtContext None old new P = ⊥
+AtContext (Some c) old new P = (d : Context) × (d.act ≡ c.act) × (new ≡ put_context d old) × P c d
+
+-- and its next number stays
+abbrev pub AtKept : Option Context → List Context → List Context → (Context → Context → Type 0) → Type 0
+AtKept o old new P = AtContext o old new (λ c d. (d.next ≡ c.next) × P c d)

@@ -1,0 +1,22 @@
+//! The parts of the ideal machine as code: contexts, flights and grants, each call by its definition, and what the
+//! entries of a journal say of its steps. Every activity has a context of its own; there is no tile, link, place or hold
+//! list.
+#![tactic(auto)]
+
+pub mod belongs;
+pub mod context;
+pub mod contexts;
+pub mod fetched;
+pub mod flight;
+pub mod flights;
+pub mod flying;
+pub mod grants;
+pub mod issued;
+pub mod lane;
+pub mod letter;
+pub mod memory;
+pub mod records;
+pub mod shows;
+pub mod slot;
+pub mod steps;
+pub mod word;
