@@ -1,0 +1,206 @@
+//! What no clause says: that the kernel answers where memory suffices.
+
+ghost use Rattle.std.specs.Prelude.{◌≡◌, []};
+
+use m3_base::ids::{ActId, EpId, FlightId, GrantId, TileId};
+use m3_base::message::{Header, Message};
+use m3_base::packet::{Fresh, Packet};
+use m3_base::payload::Payload;
+use m3_base::setup::{Setup, SetupRefusal};
+use m3_base::setup_line::SetupLine;
+use m3_core::context::Context;
+use m3_core::parcel::{Emit, Parcel};
+use m3_kernel::done::Done;
+use m3_kernel::kernel::Kernel;
+use std::alloc::{AllocError, Global};
+
+/// Activities 0 and 1 have their home on tile 2.
+fn setup(alloc: Global) -> Result<Setup, SetupRefusal> {
+    let tile = TileId::new(2);
+    let mut setup = Setup::new(alloc, 4, 4096)?;
+    setup.add(SetupLine::Act {
+        act: ActId::new(0),
+        tile,
+    })?;
+    setup.add(SetupLine::Act {
+        act: ActId::new(1),
+        tile,
+    })?;
+    Ok(setup)
+}
+
+/// Activity 0 is there, and 1 rests, with a mailbox of two slots at endpoint 0.
+fn seats(alloc: Global, kernel: &mut Kernel) -> Result<(), AllocError>
+    requires { kernel.old.kernel.seats ≡ [] }
+{
+    let mut resting = Context::new(alloc, ActId::new(1))?;
+    resting.install(
+        EpId::new(0),
+        Fresh::Receive {
+            grant: GrantId::new(1),
+            slots: 2,
+            size: 16,
+        },
+    );
+    kernel.seat(alloc, ActId::new(0), None)?;
+    kernel.seat(alloc, ActId::new(1), Some(resting))
+}
+
+/// An empty message of activity 0 to the mailbox of activity 1.
+fn message(alloc: Global) -> Parcel {
+    let header = Header {
+        flags: 0,
+        reply_ep: 255,
+        sender: ActId::new(0),
+        lane: 0,
+        length: 0,
+        send: 2,
+        reply: 0,
+        number: 1,
+        label: 7,
+    };
+    Parcel::Data(Packet::Message {
+        to: ActId::new(1),
+        ep: EpId::new(0),
+        grant: GrantId::new(1),
+        message: Message {
+            header,
+            payload: Payload::new(Vec::new(alloc)),
+        },
+    })
+}
+
+/// The kernel closes the mailbox.
+fn close() -> Parcel {
+    Parcel::Data(Packet::Close {
+        id: FlightId {
+            issuer: 64,
+            number: 1,
+        },
+        to: ActId::new(1),
+        ep: EpId::new(0),
+        grant: GrantId::new(1),
+    })
+}
+
+/// An event of the kernel.
+#[derive(Clone, Copy, Debug, Drop)]
+enum Step {
+    Switch(TileId, ActId),
+    Message,
+    Close,
+    Saved,
+    Yield(ActId),
+    Save(ActId),
+    Closed,
+    Tend(ActId),
+}
+
+fn take(kernel: &mut Kernel, parcel: Parcel) -> Result<Done, AllocError> {
+    match kernel.take(parcel) {
+        Ok(done) => Ok(done),
+        Err((_, error)) => Err(error),
+    }
+}
+
+fn run(alloc: Global, kernel: &mut Kernel, step: Step) -> Result<Done, AllocError> {
+    match step {
+        Step::Switch(tile, act) => Ok(kernel.switch(tile, act)),
+        Step::Message => take(kernel, message(alloc)),
+        Step::Close => take(kernel, close()),
+        Step::Saved => {
+            let act = ActId::new(0);
+            let context = Context::new(alloc, act)?;
+            take(
+                kernel,
+                Parcel::Saved {
+                    act,
+                    context,
+                    waiting: false,
+                    ended: false,
+                },
+            )
+        }
+        Step::Yield(act) => take(kernel, Parcel::Yield(act)),
+        Step::Save(act) => take(kernel, Parcel::Save(act)),
+        Step::Closed => take(kernel, Parcel::Closed(GrantId::new(1))),
+        Step::Tend(act) => kernel.tend(alloc, act),
+    }
+}
+
+fn tile(emit: &Option<Emit>) -> u8 {
+    match emit {
+        None => 99,
+        Some(emit) => emit.to.number(),
+    }
+}
+
+/// What is said, who is restored, and the tiles of what goes out, 99 where nothing does.
+fn text(alloc: Global, done: &Done) -> Result<String, AllocError> {
+    format!(in alloc;
+        "{:?} {:?} {} {}",
+        done.outcome.said,
+        done.outcome.restore,
+        tile(&done.first),
+        tile(&done.second)
+    )
+}
+
+/// A switch is refused for its reasons in order; what comes for an activity that is away is held; and Restore goes out
+/// only with the last packet that was held for it.
+#[test]
+fn a_switch_waits_for_what_is_held(rt: HostRuntime) {
+    let alloc = rt.alloc();
+    let setup = setup(alloc).expect(&rt, "the lines are fine");
+    let mut kernel = Kernel::new(alloc, &setup).expect(&rt, "memory");
+    seats(alloc, &mut kernel).expect(&rt, "memory");
+    let zero = ActId::new(0);
+    let one = ActId::new(1);
+    let home = TileId::new(2);
+    for (step, expected) in [
+        (Step::Switch(TileId::new(3), one), "No(NotHome) None 99 99"),
+        (Step::Switch(home, zero), "No(Already) None 99 99"),
+        (Step::Tend(zero), "Idle(NotResting) None 99 99"),
+        (Step::Tend(one), "Idle(EmptyHold) None 99 99"),
+        (
+            Step::Message,
+            "Held(FlightId { issuer: 0, number: 1 }, ActId { number: 1 }) None 99 99",
+        ),
+        (Step::Yield(zero), "Yielded(ActId { number: 0 }) None 99 99"),
+        (
+            Step::Switch(home, one),
+            "Save(ActId { number: 0 }) None 2 99",
+        ),
+        (Step::Switch(home, one), "No(Already) None 99 99"),
+        (Step::Switch(home, zero), "No(Leaving) None 99 99"),
+        (Step::Save(zero), "Idle(EmptyLink) None 99 99"),
+        (Step::Closed, "Idle(EmptyLink) None 99 99"),
+        (
+            Step::Close,
+            "Held(FlightId { issuer: 64, number: 1 }, ActId { number: 1 }) None 99 99",
+        ),
+        (Step::Saved, "Saved(ActId { number: 0 }) None 99 99"),
+        (
+            Step::Tend(one),
+            "Landed(FlightId { issuer: 0, number: 1 }) None 99 99",
+        ),
+        (
+            Step::Tend(one),
+            "Closed(FlightId { issuer: 64, number: 1 }, GrantId { number: 1 }) Some(ActId { number: 1 }) 0 2",
+        ),
+        (Step::Tend(zero), "Idle(EmptyHold) None 99 99"),
+        (
+            Step::Message,
+            "Routed(FlightId { issuer: 0, number: 1 }) None 2 99",
+        ),
+        (
+            Step::Switch(home, zero),
+            "Save(ActId { number: 1 }) None 2 99",
+        ),
+    ] {
+        let done = run(alloc, &mut kernel, step).expect(&rt, "memory");
+        let told = text(alloc, &done).expect(&rt, "memory");
+        assert_eq!(rt; told.as_str(), expected);
+    }
+    assert_eq!(rt; kernel.hold_len(zero), 1);
+}
