@@ -4,14 +4,9 @@ use Rattle.std.specs.Prelude.{not}
 use Rattle.std.proofs.lemmas.Bool.Decides.{nat_tests}
 use Rattle.m3_base.specs.declared.ids.FlightId.{FlightId}
 use Rattle.m3_base.specs.declared.packet.Packet.{Packet}
-use Rattle.m3_base.specs.Ideal.Flights.{name_of, same_name, name_before, flight, new_flight, change_flight, end_flight}
+use Rattle.m3_base.specs.Ideal.Flights.{name_of, same_name, name_before, flight, new_flight, change_flight, end_flight, sorted_by_name}
 use Rattle.m3_base.specs.Ideal.FlightNames.{Apart}
 use Rattle.m3_base.proofs.FlightNames.{same_name-itself, same_name-turned}
-
--- packets in the order of their names
-abbrev pub by_name : List Packet → List Packet
-by_name [] = []
-by_name (p ∷ ps) = new_flight p (by_name ps)
 
 before_flips : (a b : FlightId) → same_name a b ≡ false → name_before a b ≡ not (name_before b a)
 before_flips a b h = grind (arith, nat_tests)
@@ -24,9 +19,9 @@ new-new p q [] h = grind (arith, before_flips (name_of p) (name_of q) h)
 new-new p q (x ∷ fs) h = grind (arith, before_flips (name_of p) (name_of q) h, before_chain (name_of p) (name_of q) (name_of x), before_chain (name_of q) (name_of p) (name_of x), new-new p q fs h)
 
 -- a packet may stand anywhere
-pub by_name-middle : (xs : List Packet) (p : Packet) (ys : List Packet) → Apart (name_of p) xs → by_name (xs ++ p ∷ ys) ≡ new_flight p (by_name (xs ++ ys))
-by_name-middle [] p ys a = refl
-by_name-middle (x ∷ xs) p ys a = ap (new_flight x) (by_name-middle xs p ys (grind (arith, a))) ∙ new-new x p (by_name (xs ++ ys)) (grind (arith, a, same_name-turned))
+pub sorted_by_name-middle : (xs : List Packet) (p : Packet) (ys : List Packet) → Apart (name_of p) xs → sorted_by_name (xs ++ p ∷ ys) ≡ new_flight p (sorted_by_name (xs ++ ys))
+sorted_by_name-middle [] p ys a = refl
+sorted_by_name-middle (x ∷ xs) p ys a = ap (new_flight x) (sorted_by_name-middle xs p ys (grind (arith, a))) ∙ new-new x p (sorted_by_name (xs ++ ys)) (grind (arith, a, same_name-turned))
 
 -- landing and ending, by name
 pub change-new : (p q : Packet) (fs : List Packet) → name_of q ≡ name_of p → Apart (name_of p) fs → change_flight q (new_flight p fs) ≡ new_flight q fs

@@ -11,7 +11,7 @@ use Rattle.m3_base.specs.declared.packet.Fresh.{Fresh}
 use Rattle.m3_base.specs.Ideal.State.{Grant, grant_in, parent_in, parent_of, undone, holder, holder_ep, is_number, is_done, is_live}
 use Rattle.m3_base.specs.Ideal.GrantRules.{form, new_grant, holds_at, is_open_child, is_outside, is_above_closing, is_more, is_crowded, first_no, make_refusal, fresh_of as fresh_in}
 use Rattle.m3_base.specs.declared.grants.node.Node.{Node}
-use Rattle.m3_base.specs.Setup.GrantTable.{holds_in, above, is_live_in, on_node, new_node, as_grant, grants_of, IsTree, IsRange, Counts, FitsIn, FitsUnder, size_of, with_found, under_parent, one_more, is_before, is_live_above, is_rightful, is_some_number, has_room, has_room_under}
+use Rattle.m3_base.specs.Setup.GrantTable.{holds_in, above, is_live_in, on_node, new_node, as_grant, grants_of, IsTree, IsRange, Counts, FitsIn, FitsUnder, size_of, with_found, under_parent, is_before, is_live_above, is_rightful, is_some_number, has_room_under, has_child_room, with_child_more}
 use Rattle.m3_base.proofs.GrantTableLookup.{length_grants, get_with_node, length_with_node}
 use Rattle.m3_base.proofs.ListLookups.{get_pushed, get_none, length_pushed}
 
@@ -58,8 +58,8 @@ pub grants_pushed : (nodes : List Node) (x : Node) → grants_of (nodes ++ x ∷
 grants_pushed [] x = refl
 grants_pushed (y ∷ ys) x = ap (λ z. as_grant y ∷ z) (grants_pushed ys x)
 
-pub grants_made : (nodes : List Node) (line : GrantLine) (f : Fresh) → grants_of (under_parent nodes (parent_of line) one_more ++ new_node line f ∷ []) ≡ grants_of nodes ++ new_grant line f ∷ []
-grants_made nodes line f = grants_pushed (under_parent nodes (parent_of line) one_more) (new_node line f) ∙ ap (λ z. z ++ new_grant line f ∷ []) (grants_under nodes (parent_of line) one_more (λ x. refl))
+pub grants_made : (nodes : List Node) (line : GrantLine) (f : Fresh) → grants_of (under_parent nodes (parent_of line) with_child_more ++ new_node line f ∷ []) ≡ grants_of nodes ++ new_grant line f ∷ []
+grants_made nodes line f = grants_pushed (under_parent nodes (parent_of line) with_child_more) (new_node line f) ∙ ap (λ z. z ++ new_grant line f ∷ []) (grants_under nodes (parent_of line) with_child_more (λ x. refl))
 
 -- ---- the parent
 
@@ -172,11 +172,11 @@ under_pushed nodes y (Some g) f u =
     let last : g ≤ length (grants_of nodes) = u.0.1 in
     set_pushed nodes y (g - 1) f (omega (arith, some, last, length_grants nodes))
 
-pub made_is : (memory : ℕ) (nodes : List Node) (line : GrantLine) (f : Fresh) → make_refusal memory (grants_of nodes) line ≡ None → form (length (grants_of nodes) + 1) line (above (grants_of nodes) line) ≡ Some f → under_parent (nodes ++ new_node line f ∷ []) (parent_of line) one_more ≡ under_parent nodes (parent_of line) one_more ++ new_node line f ∷ []
+pub made_is : (memory : ℕ) (nodes : List Node) (line : GrantLine) (f : Fresh) → make_refusal memory (grants_of nodes) line ≡ None → form (length (grants_of nodes) + 1) line (above (grants_of nodes) line) ≡ Some f → under_parent (nodes ++ new_node line f ∷ []) (parent_of line) with_child_more ≡ under_parent nodes (parent_of line) with_child_more ++ new_node line f ∷ []
 made_is memory nodes line f e w =
     let gs = grants_of nodes in
     let known : Allowed memory gs line (above gs line) = allowed memory gs line e in
-    under_pushed nodes (new_node line f) (parent_of line) one_more (is_under (length gs + 1) gs line f w known.is_open)
+    under_pushed nodes (new_node line f) (parent_of line) with_child_more (is_under (length gs + 1) gs line f w known.is_open)
 
 pub before_made : (memory : ℕ) (nodes : List Node) (line : GrantLine) (f : Fresh) → make_refusal memory (grants_of nodes) line ≡ None → form (length (grants_of nodes) + 1) line (above (grants_of nodes) line) ≡ Some f → is_before (parent_of line) (length nodes) ≡ true
 before_made memory nodes line f e w =
@@ -192,7 +192,7 @@ pub room_pushed : (nodes : List Node) (line : GrantLine) (f : Fresh) (p : Option
 room_pushed nodes line f None h = refl
 room_pushed nodes line f (Some g) h = rw (get_pushed nodes (new_node line f) (g - 1)) (by_place (g - 1 == length nodes))
   where
-    by_place : (b : Bool) → has_room (if b then Some (new_node line f) else slice_get nodes (g - 1)) ≡ true
+    by_place : (b : Bool) → has_child_room (if b then Some (new_node line f) else slice_get nodes (g - 1)) ≡ true
     by_place true = grind (arith, nat_tests)
     by_place false = h
 
@@ -288,19 +288,19 @@ before_under : (gs : List Grant) (p : Option ℕ) → IsUnder gs p → IsBefore 
 before_under gs None u = tt
 before_under gs (Some p) u = u.0
 
-one_more_counts : (n : ℕ) (nodes : List Node) (i : ℕ) (o : Option Node) → slice_get nodes i ≡ o → i < length nodes → Counts n o → Counts (n + 1) (on_node one_more o)
+one_more_counts : (n : ℕ) (nodes : List Node) (i : ℕ) (o : Option Node) → slice_get nodes i ≡ o → i < length nodes → Counts n o → Counts (n + 1) (on_node with_child_more o)
 one_more_counts n nodes i None e h k = absurd (let z : length nodes ≤ i = get_none nodes i e in omega arith)
 one_more_counts n nodes i (Some x) e h k = ap (λ m. m + 1) k
 
-counts_under : (count : ℕ → ℕ) (nodes : List Node) (p : Option ℕ) → IsBefore p (length nodes) → ((i : ℕ) → Counts (count i) (slice_get nodes i)) → (i : ℕ) → Counts (count i + cond (is_number (i + 1) p) 1 0) (slice_get (under_parent nodes p one_more) i)
+counts_under : (count : ℕ → ℕ) (nodes : List Node) (p : Option ℕ) → IsBefore p (length nodes) → ((i : ℕ) → Counts (count i) (slice_get nodes i)) → (i : ℕ) → Counts (count i + cond (is_number (i + 1) p) 1 0) (slice_get (under_parent nodes p with_child_more) i)
 counts_under count nodes None b k i = let P : ℕ → Type 0 = λ n. Counts n (slice_get nodes i) in let e : count i ≡ count i + 0 = omega arith in subst P e (k i)
-counts_under count nodes (Some g) b k i = subst (Counts (count i + cond (g == (i + 1)) 1 0)) (sym (get_with_node nodes one_more (g - 1) i)) (by_place (i == (g - 1)) refl)
+counts_under count nodes (Some g) b k i = subst (Counts (count i + cond (g == (i + 1)) 1 0)) (sym (get_with_node nodes with_child_more (g - 1) i)) (by_place (i == (g - 1)) refl)
   where
-    by_place : (b : Bool) → (i == (g - 1)) ≡ b → Counts (count i + cond (g == (i + 1)) 1 0) (if b then on_node one_more (slice_get nodes (g - 1)) else slice_get nodes i)
+    by_place : (b : Bool) → (i == (g - 1)) ≡ b → Counts (count i + cond (g == (i + 1)) 1 0) (if b then on_node with_child_more (slice_get nodes (g - 1)) else slice_get nodes i)
     by_place true w =
         let same : i ≡ g - 1 = grind (arith, nat_tests, w) in
         let hit : count i + cond (g == (i + 1)) 1 0 ≡ count (g - 1) + 1 = grind (arith, nat_tests, same, b.0) in
-        let Q : ℕ → Type 0 = λ n. Counts n (on_node one_more (slice_get nodes (g - 1))) in
+        let Q : ℕ → Type 0 = λ n. Counts n (on_node with_child_more (slice_get nodes (g - 1))) in
         subst Q (sym hit) (one_more_counts (count (g - 1)) nodes (g - 1) (slice_get nodes (g - 1)) refl (let h : g ≤ length nodes = b.1 in let z : 0 < g = b.0 in omega arith) (k (g - 1)))
     by_place false w =
         let missed : count i + cond (g == (i + 1)) 1 0 ≡ count i = grind (arith, nat_tests, w, b.0) in
@@ -318,42 +318,42 @@ none_beyond : (n : ℕ) (p : Option ℕ) → IsBefore p n → cond {A = ℕ} (is
 none_beyond n None b = refl
 none_beyond n (Some g) b = grind (arith, nat_tests, b.1)
 
-children_made : (nodes : List Node) (line : GrantLine) (f : Fresh) → IsBefore (parent_of line) (length nodes) → ((i : ℕ) → Counts (count_by (is_open_child (i + 1)) (grants_of nodes)) (slice_get nodes i)) → (i : ℕ) → Counts (count_by (is_open_child (i + 1)) (grants_of nodes ++ new_grant line f ∷ [])) (slice_get (under_parent nodes (parent_of line) one_more ++ new_node line f ∷ []) i)
+children_made : (nodes : List Node) (line : GrantLine) (f : Fresh) → IsBefore (parent_of line) (length nodes) → ((i : ℕ) → Counts (count_by (is_open_child (i + 1)) (grants_of nodes)) (slice_get nodes i)) → (i : ℕ) → Counts (count_by (is_open_child (i + 1)) (grants_of nodes ++ new_grant line f ∷ [])) (slice_get (under_parent nodes (parent_of line) with_child_more ++ new_node line f ∷ []) i)
 children_made nodes line f b k i =
     let p = parent_of line in
     let count : ℕ → ℕ = λ j. count_by (is_open_child (j + 1)) (grants_of nodes) + cond (is_number (j + 1) p) 1 0 in
     let past : Counts (count_by (is_open_child (length nodes + 1)) (grants_of nodes)) None = subst (Counts (count_by (is_open_child (length nodes + 1)) (grants_of nodes))) (slice_get_past nodes (length nodes) (omega arith)) (k (length nodes)) in
     let none : count (length nodes) ≡ 0 = grind (arith, past, none_beyond (length nodes) p b) in
-    let Q : ℕ → Type 0 = λ n. Counts n (slice_get (under_parent nodes p one_more ++ new_node line f ∷ []) i) in
+    let Q : ℕ → Type 0 = λ n. Counts n (slice_get (under_parent nodes p with_child_more ++ new_node line f ∷ []) i) in
     subst Q (sym (count_pushed (i + 1) (grants_of nodes) line f)) (
-    counts_pushed count (under_parent nodes p one_more) (new_node line f) (sym (ap count (length_under nodes p one_more) ∙ none)) (counts_under (λ j. count_by (is_open_child (j + 1)) (grants_of nodes)) nodes p b k) i
+    counts_pushed count (under_parent nodes p with_child_more) (new_node line f) (sym (ap count (length_under nodes p with_child_more) ∙ none)) (counts_under (λ j. count_by (is_open_child (j + 1)) (grants_of nodes)) nodes p b k) i
     )
 
 -- ---- the tree
 
-pub tree_made : (memory : ℕ) (nodes : List Node) (table : List (Option ℕ)) (line : GrantLine) (f : Fresh) → memory ≤ 1048576 → IsTree nodes table → make_refusal memory (grants_of nodes) line ≡ None → holder line < 64 → holder_ep line < 16 → form (length (grants_of nodes) + 1) line (above (grants_of nodes) line) ≡ Some f → IsTree (under_parent nodes (parent_of line) one_more ++ new_node line f ∷ []) (set table (16 * holder line + holder_ep line) (Some (length (grants_of nodes) + 1)))
+pub tree_made : (memory : ℕ) (nodes : List Node) (table : List (Option ℕ)) (line : GrantLine) (f : Fresh) → memory ≤ 1048576 → IsTree nodes table → make_refusal memory (grants_of nodes) line ≡ None → holder line < 64 → holder_ep line < 16 → form (length (grants_of nodes) + 1) line (above (grants_of nodes) line) ≡ Some f → IsTree (under_parent nodes (parent_of line) with_child_more ++ new_node line f ∷ []) (set table (16 * holder line + holder_ep line) (Some (length (grants_of nodes) + 1)))
 tree_made memory nodes table line f m t n a e w =
     let gs = grants_of nodes in
     let known : Allowed memory gs line (above gs line) = allowed memory gs line n in
-    let is : gs ++ new_grant line f ∷ [] ≡ grants_of (under_parent nodes (parent_of line) one_more ++ new_node line f ∷ []) = sym (grants_made nodes line f) in
+    let is : gs ++ new_grant line f ∷ [] ≡ grants_of (under_parent nodes (parent_of line) with_child_more ++ new_node line f ∷ []) = sym (grants_made nodes line f) in
     let under : IsUnder gs (parent_of line) = is_under (length gs + 1) gs line f w known.is_open in
     let fits : FitsUnder line (above gs line) = fits_under memory line (above gs line) (above_range gs line t.ranges) known.inside in
     let before : IsBefore (parent_of line) (length nodes) = subst (IsBefore (parent_of line)) (length_grants nodes) (before_under gs (parent_of line) under) in
     let at : 16 * holder line + holder_ep line < length table = omega (arith, a, e, t.room) in
-    let size = length_pushed (under_parent nodes (parent_of line) one_more) (new_node line f) in
+    let size = length_pushed (under_parent nodes (parent_of line) with_child_more) (new_node line f) in
     record {
-      few = omega (arith, size, length_under nodes (parent_of line) one_more, length_grants nodes, known.few);
+      few = omega (arith, size, length_under nodes (parent_of line) with_child_more, length_grants nodes, known.few);
       room = length-set table (16 * holder line + holder_ep line) (Some (length gs + 1)) ∙ t.room;
       numbers = numbers_made table (16 * holder line + holder_ep line) (length gs) at t.numbers;
       held = subst (λ hs. (b ep i : ℕ) → b < 64 → ep < 16 → holds_in b ep (slice_get hs i) ≡ is_number (i + 1) (get_or (set table (16 * holder line + holder_ep line) (Some (length gs + 1))) (16 * b + ep) None)) is (held_made table gs line f t.room a e known.is_free t.held);
       ranges = subst (λ hs. (i : ℕ) → IsRange (slice_get hs i)) is (ranges_made gs (new_grant line f) t.ranges (form_inside memory (length gs + 1) line (above gs line) f m fits known.inside w));
-      children = subst (λ hs. (i : ℕ) → Counts (count_by (is_open_child (i + 1)) hs) (slice_get (under_parent nodes (parent_of line) one_more ++ new_node line f ∷ []) i)) is (children_made nodes line f before t.children);
+      children = subst (λ hs. (i : ℕ) → Counts (count_by (is_open_child (i + 1)) hs) (slice_get (under_parent nodes (parent_of line) with_child_more ++ new_node line f ∷ []) i)) is (children_made nodes line f before t.children);
       rightful = subst (λ hs. (i : ℕ) → is_rightful hs i (slice_get hs i) ≡ true) is (rightful_made gs line f under t.rightful);
     }
 
 -- ---- a count stays within 4,096
 
-room_found : (n : ℕ) (o : Option Node) → n < 4096 → Counts n o → has_room o ≡ true
+room_found : (n : ℕ) (o : Option Node) → n < 4096 → Counts n o → has_child_room o ≡ true
 room_found n None h k = refl
 room_found n (Some x) h k = grind (arith, nat_tests, h, k)
 

@@ -74,7 +74,3 @@ some_is (Some k) e h w = grind (arith, nat_tests, e, w)
 pub taken_is : (nodes : List Node) (table : List (Option ℕ)) (act ep : ℕ) → IsTree nodes table → act < 64 → ep < 16 → is_some (slice_index_or table (16 * act + ep) None) ≡ list_any (holds_at act ep) (grants_of nodes)
 taken_is nodes table act ep t a e =
     any_held act ep (grants_of nodes) (slice_index_or table (16 * act + ep) None) (some_is (slice_index_or table (16 * act + ep) None) (t.numbers (16 * act + ep))) (λ i. t.held act ep i a e)
-
--- numbers count from 1
-pub grant_in-suc : (gs : List Grant) (p : ℕ) → grant_in gs (suc p) ≡ slice_get gs p
-grant_in-suc gs p = let e : suc p - 1 ≡ p = omega arith in rw e (grind (arith, nat_tests))

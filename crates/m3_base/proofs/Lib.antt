@@ -1,4 +1,8 @@
-pub mod Bools
+pub mod Options
+pub mod Counting
+pub mod Activities
+pub mod GrantsByNumber
+pub mod Positions
 pub mod ListLookups
 pub mod SetupGrants
 pub mod FileNameUtf8
@@ -14,3 +18,6 @@ pub mod FlightOrder
 pub mod GrantRefusal
 pub mod GrantTableLookup
 pub mod GrantTableGrow
+pub mod MemorySize
+pub mod GrantRefusalCauses
+pub mod KernelNumber

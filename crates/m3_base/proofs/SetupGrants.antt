@@ -6,7 +6,7 @@ use Rattle.m3_base.specs.declared.order.GrantLine.{GrantLine}
 use Rattle.m3_base.specs.declared.packet.Fresh.{Fresh}
 use Rattle.m3_base.specs.Ideal.State.{Grant, grant_in, parent_in, parent_of, undone, holder, holder_ep, is_done}
 use Rattle.m3_base.specs.Ideal.GrantRules.{form, new_grant, make_refusal}
-use Rattle.m3_base.specs.Setup.GrantTable.{above, with_made, is_fresh, grants_of, new_node, under_parent, one_more, IsSetupTable}
+use Rattle.m3_base.specs.Setup.GrantTable.{above, with_made, is_fresh, grants_of, new_node, under_parent, IsSetupTable, with_child_more}
 use Rattle.m3_base.specs.Setup.Rules.{with_grant, grant_added}
 use Rattle.m3_base.proofs.GrantTableGrow.{grants_made, tree_made}
 use Rattle.m3_base.proofs.ListLookups.{get_pushed}
@@ -44,11 +44,11 @@ fresh_added gs line (Some f) h i = rw (get_pushed gs (new_grant line f) i) (by_p
     by_place true = refl
     by_place false = h i
 
-pub setup_table_made : (memory : ℕ) (nodes : List Node) (table : List (Option ℕ)) (line : GrantLine) (f : Fresh) → memory ≤ 1048576 → IsSetupTable nodes table → make_refusal memory (grants_of nodes) line ≡ None → holder line < 64 → holder_ep line < 16 → form (length (grants_of nodes) + 1) line (above (grants_of nodes) line) ≡ Some f → IsSetupTable (under_parent nodes (parent_of line) one_more ++ new_node line f ∷ []) (set table (16 * holder line + holder_ep line) (Some (length (grants_of nodes) + 1)))
+pub setup_table_made : (memory : ℕ) (nodes : List Node) (table : List (Option ℕ)) (line : GrantLine) (f : Fresh) → memory ≤ 1048576 → IsSetupTable nodes table → make_refusal memory (grants_of nodes) line ≡ None → holder line < 64 → holder_ep line < 16 → form (length (grants_of nodes) + 1) line (above (grants_of nodes) line) ≡ Some f → IsSetupTable (under_parent nodes (parent_of line) with_child_more ++ new_node line f ∷ []) (set table (16 * holder line + holder_ep line) (Some (length (grants_of nodes) + 1)))
 setup_table_made memory nodes table line f m t n a e w = record {
   tree = tree_made memory nodes table line f m t.tree n a e w;
   live = λ i. rw (grants_made nodes line f) (fresh_added (grants_of nodes) line (Some f) t.live i);
 }
 
-pub setup_grants_made : (nodes : List Node) (line : GrantLine) (f : Fresh) → ((i : ℕ) → is_fresh (slice_get (grants_of nodes) i) ≡ true) → form (length (grants_of nodes) + 1) line (above (grants_of nodes) line) ≡ Some f → grants_of (under_parent nodes (parent_of line) one_more ++ new_node line f ∷ []) ≡ grant_added line (grants_of nodes)
+pub setup_grants_made : (nodes : List Node) (line : GrantLine) (f : Fresh) → ((i : ℕ) → is_fresh (slice_get (grants_of nodes) i) ≡ true) → form (length (grants_of nodes) + 1) line (above (grants_of nodes) line) ≡ Some f → grants_of (under_parent nodes (parent_of line) with_child_more ++ new_node line f ∷ []) ≡ grant_added line (grants_of nodes)
 setup_grants_made nodes line f h w = grants_made nodes line f ∙ (ap (with_grant line (grants_of nodes)) (sym w) ∙ made_added (grants_of nodes) line h)

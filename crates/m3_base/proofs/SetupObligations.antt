@@ -3,7 +3,6 @@ use Rattle.std.proofs.Common.{◌≡◌, ◌≢◌, ℕ, ◌+◌, ◌<◌, Bool,
 use Rattle.std.specs.Prelude.{Option, zero, suc, ◌==◌, is_some, is_none, ◌||◌}
 use Rattle.std.specs.List.{list_any}
 use Rattle.std.proofs.lemmas.Bool.Decides.{nat_tests}
-use Rattle.m3_base.proofs.Bools.{none_if_not_some}
 use Rattle.m3_base.specs.declared.order.GrantLine.{GrantLine}
 use Rattle.m3_base.specs.declared.packet.Fresh.{Fresh}
 use Rattle.m3_base.specs.declared.setup_line.SetupLine.{SetupLine}
@@ -11,15 +10,16 @@ use Rattle.m3_base.specs.Ideal.Context.{Context, new_context, new_endpoint, with
 use Rattle.m3_base.specs.Ideal.State.{State, Grant, context_of, put_context, new_context_in, holder, holder_ep, parent_of, parent_in}
 use Rattle.m3_base.specs.Ideal.GrantRules.{form, holds_at, make_refusal}
 use Rattle.m3_base.specs.Ideal.Opening.{with_line, with_lines, state_with_grant, contexts_with_record, opening}
-use Rattle.m3_base.specs.Setup.Rules.{Facts, SetupValue, IsValid, AllKept, InRange, no_lines, facts_with_line, facts_with_lines, facts_of, breaks_rule, home_in, with_grant, grant_added}
+use Rattle.m3_base.specs.Setup.Rules.{Facts, SetupValue, IsValid, AllKept, InRange, no_lines, facts_with_line, facts_with_lines, facts_of, breaks_rule, with_grant, grant_added, home_at}
 use Rattle.m3_base.specs.Setup.Obligations.{Declared, LineIsOk, LinesAreOk}
 use Rattle.m3_base.proofs.SetupValidity.{grant_allowed}
+use Rattle.m3_base.proofs.Options.{none_if_not_some}
 
 -- what the lines say is what the state at opening has
 pub record Ties (f : Facts) (s : State) : Type 0 where
   pub grants : f.grants ≡ s.grants
   pub room : length f.homes ≡ 64
-  pub homes : (a : ℕ) → is_some (home_in f.homes a) ≡ is_some (context_of a s.contexts)
+  pub homes : (a : ℕ) → is_some (home_at f.homes a) ≡ is_some (context_of a s.contexts)
 
 some_put : (a : ℕ) (d : Context) (cs : List Context) → is_some (context_of a (put_context d cs)) ≡ is_some (context_of a cs)
 some_put a d [] = refl
@@ -45,10 +45,10 @@ grants_granted : (s : State) (line : GrantLine) (o : Option Fresh) → (state_wi
 grants_granted s line None = refl
 grants_granted s line (Some f) = refl
 
-homes_set : (homes : List (Option ℕ)) (a b t : ℕ) → length homes ≡ 64 → a < 64 → is_some (home_in (set homes a (Some t)) b) ≡ ((b == a) || is_some (home_in homes b))
+homes_set : (homes : List (Option ℕ)) (a b t : ℕ) → length homes ≡ 64 → a < 64 → is_some (home_at (set homes a (Some t)) b) ≡ ((b == a) || is_some (home_at homes b))
 homes_set homes a b t r h = by_act (b == a) refl
   where
-    by_act : (x : Bool) → (b == a) ≡ x → is_some (home_in (set homes a (Some t)) b) ≡ (x || is_some (home_in homes b))
+    by_act : (x : Bool) → (b == a) ≡ x → is_some (home_at (set homes a (Some t)) b) ≡ (x || is_some (home_at homes b))
     by_act true w =
         let e : b ≡ a = grind (arith, nat_tests, w) in
         let put : get_or (set homes a (Some t)) a None ≡ Some t = get_or-set_same homes a (Some t) None (omega arith) in
@@ -58,13 +58,13 @@ homes_set homes a b t r h = by_act (b == a) refl
         ap is_some (get_or-set_other homes a b (Some t) None n)
 
 pub obeys : (f : Facts) (s : State) (l : SetupLine) → Ties f s → breaks_rule l f ≡ false → InRange l → LineIsOk s l
-obeys f s (SetupLine.Act a t) k n r = (none_if_not_some (context_of a s.contexts) (sym (k.homes a) ∙ first_false (is_some (home_in f.homes a)) _ n), r)
+obeys f s (SetupLine.Act a t) k n r = (none_if_not_some (context_of a s.contexts) (sym (k.homes a) ∙ first_false (is_some (home_at f.homes a)) _ n), r)
   where
     first_false : (a b : Bool) → (a || b) ≡ false → a ≡ false
     first_false false b e = refl
     first_false true b e = absurd (cc)
 obeys f s (SetupLine.Grant line) k n r =
-    (r.1, (declared_of (context_of (holder line) s.contexts) (sym (k.homes (holder line)) ∙ there (home_in f.homes (holder line)) _ n), rw (sym k.grants) (not_taken f.memory f.grants line (grant_allowed f line n))))
+    (r.1, (declared_of (context_of (holder line) s.contexts) (sym (k.homes (holder line)) ∙ there (home_at f.homes (holder line)) _ n), rw (sym k.grants) (not_taken f.memory f.grants line (grant_allowed f line n))))
   where
     there : (o : Option ℕ) (b : Bool) → (is_none o || b) ≡ false → is_some o ≡ true
     there None b e = absurd (cc)
@@ -110,7 +110,7 @@ pub all_tied : (f : Facts) (s : State) (ls : List SetupLine) → Ties f s → Al
 all_tied f s [] k a = k
 all_tied f s (l ∷ ls) k a = all_tied (facts_with_line l f) (with_line s l) ls (ties f s l k a.1.0) a.1.1
 
-no_homes : (n a : ℕ) → is_some (home_in (replicate n None) a) ≡ false
+no_homes : (n a : ℕ) → is_some (home_at (replicate n None) a) ≡ false
 no_homes zero a = refl
 no_homes (suc n) zero = refl
 no_homes (suc n) (suc a) = no_homes n a

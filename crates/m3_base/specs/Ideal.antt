@@ -12,3 +12,6 @@ pub mod ReceiveRecord
 pub mod State
 pub mod Step
 pub mod FlightNames
+pub mod EndpointStep
+pub mod Positions
+pub mod GrantHolder

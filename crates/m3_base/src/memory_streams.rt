@@ -206,7 +206,8 @@ impl Sink for BytesSink {
         ensures bytes { Writes (Some self.old.written) (Some self.new.written) result bytes.now }
         ensures cause { HasCause self.old.faults self.new.faults result }
         ensures fails { is_err result ≡ (fails_next self.old.calls self.old.fails || no_room self.old bytes.now) }
-        ensures count { IfOk result (λ n. n ≡ min (min (length bytes.now) self.old.most) (self.old.room - length self.old.written)) }
+        ensures count { IfOk result (λ n. n ≡ min (min (length bytes.now) self.old.most)
+            (self.old.room - length self.old.written)) }
     {
         self.calls = self.calls.saturating_add(1);
         let left = self.room - self.bytes.len();

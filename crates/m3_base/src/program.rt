@@ -36,7 +36,7 @@ pub trait Program {
     /// Which moves lead from one meaning to another.
     ghost moves: { Self → List ℕ → Seen → Move → List ℕ → Type 0 };
 
-    /// Its next move. Want of memory leaves the meaning as it was. The payload of a move has at most 8,192 bytes.
+    /// Its next move. Out of memory, it leaves the meaning as it was. The payload of a move has at most 8,192 bytes.
     fn next(&mut self, alloc: Global, seen: &Seen) -> Result<Move, AllocError>
         ensures moves { IfOk result (λ m. moves self.old (meaning self.old) seen.now m (meaning self.new)) }
         ensures kept { OnErr result (meaning self.new ≡ meaning self.old) }
@@ -57,7 +57,7 @@ pub trait Logic: Send + Drop {
     /// Which moves lead from one meaning to another.
     ghost moves: { Self → List ℕ → Seen → Move → List ℕ → Type 0 };
 
-    /// Its next move. Want of memory leaves the meaning as it was. The payload of a move has at most 8,192 bytes.
+    /// Its next move. Out of memory, it leaves the meaning as it was. The payload of a move has at most 8,192 bytes.
     fn next(&mut self, alloc: Global, seen: &Seen) -> Result<Move, AllocError>
         ensures moves { IfOk result (λ m. moves self.old (meaning self.old) seen.now m (meaning self.new)) }
         ensures kept { OnErr result (meaning self.new ≡ meaning self.old) }

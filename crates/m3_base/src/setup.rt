@@ -5,7 +5,7 @@ mod grants;
 mod refusal;
 
 ghost use Rattle.std.specs.Prelude.{◌≡◌, ℕ, List, [], ◌∷◌, ◌++◌, true, false, None, Some, IfOk, OnOk, OnErr, Err, ◌↔◌, is_some};
-ghost use Rattle.m3_base.specs.Setup.Rules.{SetupValue, IsValid, facts_of, is_machine, breaks_rule, home_in, program_in};
+ghost use Rattle.m3_base.specs.Setup.Rules.{SetupValue, IsValid, facts_of, is_machine, breaks_rule, program_in, home_at};
 ghost use Rattle.m3_base.specs.Ideal.GrantRules.{fresh_of};
 ghost use Rattle.m3_base.specs.Ideal.State.{grant_in};
 
@@ -111,7 +111,7 @@ impl Setup {
 
     /// The home tile of an activity; None where it isn't declared.
     pub fn home(&self, act: ActId) -> Option<TileId>
-        ensures { result ≡ home_in (facts_of self.now).homes act }
+        ensures { result ≡ home_at (facts_of self.now).homes act }
     {
         self.facts.home(act)
     }

@@ -1,4 +1,3 @@
 pub mod EntriesKeepInvariant
 pub mod EntriesAreRun
 pub mod LawsAfterEntries
-pub mod NoConfigInFlight

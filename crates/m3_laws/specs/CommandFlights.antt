@@ -9,7 +9,7 @@ use Rattle.m3_base.specs.declared.packet.Perm.{Perm}
 use Rattle.m3_base.specs.declared.ids.FlightId.{FlightId}
 use Rattle.m3_base.specs.Ideal.Flights.{flight, name_of}
 use Rattle.m3_base.specs.Ideal.Context.{Kind, Sending, Replying, Reading, Writing, Flying, Fetched, Endpoint, Free, Sends, Receives, Reaches, Context, endpoint}
-use Rattle.m3_base.specs.Ideal.ReceiveRecord.{fetched_at}
+use Rattle.m3_base.specs.Ideal.ReceiveRecord.{fetched_at, has_mark}
 use Rattle.m3_base.specs.Ideal.Landing.{flying_at}
 use Rattle.m3_base.specs.Ideal.State.{context_of}
 use Rattle.m3_base.specs.Ideal.Credits.{covers}
@@ -88,10 +88,6 @@ abbrev pub CommandsHaveFlights : List Context → List Packet → Type 0
 CommandsHaveFlights cs fs = (a : ℕ) (c : Context) → context_of a cs ≡ Some c → AllFly fs c
 
 -- ---- marks
-
-abbrev pub has_mark : Option Fetched → Bool
-has_mark None = false
-has_mark (Some f) = f.marked
 
 -- the command replies to the message of this token, fetched from this endpoint
 abbrev pub replies_to : ℕ → ℕ → Flying → Bool

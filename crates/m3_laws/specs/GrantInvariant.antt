@@ -6,15 +6,15 @@ use Rattle.m3_base.specs.declared.message.Message.{Message}
 use Rattle.m3_base.specs.declared.packet.Packet.{Packet}
 use Rattle.m3_base.specs.declared.packet.Fresh.{Fresh}
 use Rattle.m3_base.specs.Ideal.Flights.{kernel, flight}
-use Rattle.m3_base.specs.Ideal.Context.{Fetched, Endpoint, Free, Sends, Receives, Reaches, Context, endpoint}
-use Rattle.m3_base.specs.Ideal.Landing.{grant_of, is_closing, has_closing, flying_at}
-use Rattle.m3_base.specs.Ideal.State.{Grant, State, holder, holder_ep, parent_of, grant_in, parent_in, is_done, is_live, context_of, is_number}
+use Rattle.m3_base.specs.Ideal.Context.{Fetched, Endpoint, Free, Sends, Receives, Reaches, Context, endpoint, endpoint_at}
+use Rattle.m3_base.specs.Ideal.Landing.{is_closing, has_closing, flying_at, is_record_of}
+use Rattle.m3_base.specs.Ideal.State.{Grant, State, holder, holder_ep, parent_of, grant_in, parent_in, is_done, is_live, context_of, is_open, DistinctActs}
 use Rattle.m3_base.specs.Ideal.GrantRules.{form}
-use Rattle.m3_base.specs.Ideal.Step.{number_of}
+use Rattle.m3_base.specs.Ideal.Step.{number_of, is_install_of}
 use Rattle.m3_base.specs.Ideal.Credits.{credits, gives_back_in}
 use Rattle.m3_base.specs.Ideal.FlightNames.{Apart, Distinct}
 use Rattle.m3_laws.specs.CommandRecord.{CommandsHaveRecords}
-use Rattle.m3_laws.specs.Laws.{is_open, limit_of, is_install_of, is_close_of}
+use Rattle.m3_laws.specs.Laws.{limit_of, is_close_of}
 
 -- ---- grants
 
@@ -47,9 +47,6 @@ abbrev pub GrantsLawful : List Grant → Type 0
 GrantsLawful gs = (g : ℕ) (x : Grant) → grant_in gs g ≡ Some x → GrantLawful gs g x
 
 -- ---- records, Installs and Closes
-
-abbrev pub is_record_of : ℕ → Endpoint → Bool
-is_record_of g e = is_number g (grant_of e)
 
 -- the records and Installs of g
 abbrev pub record_count : ℕ → State → ℕ
@@ -92,9 +89,11 @@ FormLawful gs a ep (Some f) = IsHeldAt (grant_in gs (number_of f)) a ep f
 abbrev pub fixed_part : Endpoint → Option Fresh × Bool
 fixed_part e = (form_of e, is_closing e)
 
-abbrev pub endpoint_at : Option Context → ℕ → Endpoint
-endpoint_at None ep = Free
-endpoint_at (Some c) ep = endpoint c ep
+-- a packet of an activity
+abbrev pub IsData : Packet → Type 0
+IsData (Packet.Install id to ep f) = ⊥
+IsData (Packet.Close id to ep g) = ⊥
+IsData p = Unit {0}
 
 -- an Install's grant is held where it goes, and the endpoint there is free
 abbrev pub InstallLawful : List Grant → List Context → Packet → Type 0
@@ -148,10 +147,6 @@ QueueLawful gs _ = Unit {0}
 
 -- ---- contexts
 
-abbrev pub ActsDistinct : List Context → Type 0
-ActsDistinct [] = Unit {0}
-ActsDistinct (c ∷ cs) = (context_of c.act cs ≡ None) × ActsDistinct cs
-
 -- ---- contexts and packets
 
 pub record ContextLawful (gs : List Grant) (fs : List Packet) (c : Context) : Type 0 where
@@ -179,7 +174,7 @@ CreditsLawful (Some x) n = is_open x.standing ≡ true → n ≡ limit_of x.fres
 
 -- activities, data packets and names
 pub record Traffic (gs : List Grant) (cs : List Context) (fs : List Packet) (next : ℕ) : Type 0 where
-  pub acts : ActsDistinct cs
+  pub acts : DistinctActs cs
   pub contexts : (a : ℕ) (c : Context) → context_of a cs ≡ Some c → ContextLawful gs fs c
   pub packets : (id : FlightId) (p : Packet) → flight id fs ≡ Some p → PacketLawful gs cs p
   -- the kernel's next names are new

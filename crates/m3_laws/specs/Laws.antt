@@ -7,11 +7,11 @@ use Rattle.m3_base.specs.declared.ids.FlightId.{FlightId}
 use Rattle.m3_base.specs.declared.message.Message.{Message}
 use Rattle.m3_base.specs.declared.packet.Packet.{Packet}
 use Rattle.m3_base.specs.declared.command.Refusal.{Refusal}
-use Rattle.m3_base.specs.Ideal.Step.{number_of, At_issue, IdealResult, ideal_step}
+use Rattle.m3_base.specs.Ideal.Step.{At_issue, IdealResult, ideal_step, is_install_of}
 use Rattle.m3_base.specs.Ideal.Context.{Context, endpoint, Endpoint, Free, Sends, Receives, Reaches}
 use Rattle.m3_base.specs.Ideal.Landing.{grant_of, has_send, land_refusal}
-use Rattle.m3_base.specs.Ideal.State.{is_number}
-use Rattle.m3_base.specs.Ideal.State.{Standing, Live, Closing, Grant, State, context_of, grant_in, holder_ep, parent_of, is_done}
+use Rattle.m3_base.specs.Ideal.State.{is_number, is_open}
+use Rattle.m3_base.specs.Ideal.State.{Grant, State, context_of, grant_in, holder_ep, parent_of, is_done}
 use Rattle.m3_base.specs.Ideal.Opening.{opening}
 use Rattle.m3_base.specs.Limits.{is_in_limits}
 use Rattle.m3_base.specs.Setup.Rules.{SetupValue, IsValid}
@@ -23,12 +23,6 @@ use Rattle.m3_base.specs.declared.command.Command.{Command}
 use Rattle.m3_base.specs.declared.command.Reply.{Reply}
 use Rattle.m3_base.specs.Ideal.ReceiveRecord.{is_full}
 use Rattle.m3_base.specs.Ideal.Issue.{IssueOutcome, send_refusal, next_id}
-
--- live or closing
-abbrev pub is_open : Standing → Bool
-is_open Live = true
-is_open Closing = true
-is_open _ = false
 
 abbrev pub limit_of : Fresh → ℕ
 limit_of (Fresh.Send g to to_ep to_grant label size limit) = limit
@@ -79,10 +73,6 @@ parent_at (Some x) = parent_of x.line
 abbrev pub IsPath : List Grant → ℕ → ℕ → List ℕ → Type 0
 IsPath gs r g [] = g ≡ r
 IsPath gs r g (p ∷ ps) = (parent_at (grant_in gs g) ≡ Some p) × IsPath gs r p ps
-
-abbrev pub is_install_of : ℕ → Packet → Bool
-is_install_of g (Packet.Install id to ep f) = number_of f == g
-is_install_of g packet = false
 
 abbrev pub is_close_of : ℕ → Packet → Bool
 is_close_of g (Packet.Close id to ep h) = h == g

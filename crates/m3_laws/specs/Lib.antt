@@ -1,10 +1,8 @@
 pub mod Laws
 pub mod CommandFlights
 pub mod Invariant
-pub mod GrantHolder
 pub mod JournalLaws
 pub mod GrantInvariant
 pub mod MessageOrder
 pub mod WellFormed
-pub mod NoConfigInFlight
 pub mod CommandRecord

@@ -5,8 +5,9 @@ use Rattle.m3_base.specs.Ideal.State.{State}
 use Rattle.m3_base.specs.Ideal.Opening.{opening}
 use Rattle.m3_base.specs.Setup.Rules.{SetupValue, IsValid}
 use Rattle.m3_base.specs.Ideal.Step.{IdealResult, ideal_step}
-use Rattle.m3_base.specs.Ideal.MessageTraces.{final, state_after_steps, collect, issued_at, landed_at, refused_at, fetched_at, flying_of, names_of, messages_named, IsPrefix}
+use Rattle.m3_base.specs.Ideal.MessageTraces.{final, state_after_steps, collect, issued_at, landed_at, refused_at, fetched_at, flying_of, names_of, messages_named}
 use Rattle.m3_laws.specs.Laws.{AllFit}
+use Rattle.m3_base.specs.Lists.Prefixes.{IsPrefix}
 
 abbrev pub HasNext : Option IdealResult → Type 0
 HasNext None = ⊥

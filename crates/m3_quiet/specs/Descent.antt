@@ -3,7 +3,6 @@ use Rattle.std.specs.Prelude.{◌≡◌, ℕ, ◌<◌, Bool, true, false, not, �
 use Rattle.m3_base.specs.declared.event.Made.{Made}
 use Rattle.m3_base.specs.declared.event.Event.{Event}
 use Rattle.m3_base.specs.declared.order.Order.{Order}
-use Rattle.m3_base.specs.declared.event.Said.{Said}
 use Rattle.m3_base.specs.Lists.Counting.{total}
 use Rattle.m3_base.specs.Ideal.State.{State}
 use Rattle.m3_base.specs.Placement.State.{Placement, PlacedActivity, actor}
@@ -11,6 +10,7 @@ use Rattle.m3_base.specs.Placement.Landing.{PlacementResult}
 use Rattle.m3_base.specs.Lists.CountDown.{one_less}
 use Rattle.m3_base.specs.DriverRun.Configuration.{orders_after}
 use Rattle.m3_quiet.specs.Potential.{Units, potential}
+use Rattle.m3_base.specs.Journal.Entry.{is_idle}
 
 -- ---- what an event takes of the programs' calls and of the script's orders
 
@@ -39,10 +39,6 @@ units_after p us e made = us
 abbrev pub HasCall : Placement → Units → Event → Option Made → Type 0
 HasCall p us (Event.Turn a) made = takes_call (actor a p) made ≡ true → 0 < units_of a us
 HasCall p us e made = Unit {0}
-
-abbrev pub is_idle : Said → Bool
-is_idle (Said.Idle why) = true
-is_idle said = false
 
 abbrev pub unit_total : Units → ℕ
 unit_total us = total (λ u. u.1) us

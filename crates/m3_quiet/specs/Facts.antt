@@ -1,13 +1,12 @@
 -- What is asked of a state and its places, so that each event lowers the sum.
-use Rattle.std.specs.Prelude.{◌≡◌, ℕ, ◌<◌, ◌≤◌, ◌||◌, Bool, true, false, List, [], ◌∷◌, length, Option, Some, None, is_some, slice_index_or}
+use Rattle.std.specs.Prelude.{◌≡◌, ℕ, ◌<◌, ◌≤◌, ◌||◌, Bool, true, false, List, [], ◌∷◌, length, Some, None, is_some, slice_index_or}
 use Rattle.m3_base.specs.declared.ids.FlightId.{FlightId}
 use Rattle.m3_base.specs.declared.packet.Packet.{Packet}
 use Rattle.m3_base.specs.Lists.Keyed as keyed
 use Rattle.m3_base.specs.Ideal.Flights.{flight}
-use Rattle.m3_base.specs.Ideal.Context.{Context, Endpoint, Free, endpoint}
+use Rattle.m3_base.specs.Ideal.Context.{Context, endpoint_at}
 use Rattle.m3_base.specs.Ideal.Issue.{next_id}
-use Rattle.m3_base.specs.Ideal.Landing.{grant_of}
-use Rattle.m3_base.specs.Ideal.State.{is_number}
+use Rattle.m3_base.specs.Ideal.Landing.{is_record_of}
 use Rattle.m3_base.specs.Ideal.GrantRules.{kernel_id}
 use Rattle.m3_base.specs.Ideal.State.{State, Grant, context_of, grant_in, holder, is_done}
 use Rattle.m3_base.specs.Placement.State.{Placement, PlacedActivity, LinkToken, Data, Saved, Closed, actor, actor_act, link, current_of, is_leaving, is_resting, is_coming, ready_at}
@@ -46,19 +45,11 @@ HoldsKnown fs (x ∷ xs) = NamesKnown fs x.hold × HoldsKnown fs xs
 
 -- ---- records
 
-abbrev pub ep_at : Option Context → ℕ → Endpoint
-ep_at None ep = Free
-ep_at (Some c) ep = endpoint c ep
-
--- the endpoint has a record of this grant
-abbrev pub is_of : ℕ → Endpoint → Bool
-is_of g e = is_number g (grant_of e)
-
 -- the grant of a record isn't done
 abbrev pub RecordsStand : State → Type 0
 RecordsStand s =
     (a ep g : ℕ) (x : Grant)
-    → is_of g (ep_at (context_of a s.contexts) ep) ≡ true
+    → is_record_of g (endpoint_at (context_of a s.contexts) ep) ≡ true
     → grant_in s.grants g ≡ Some x
     → is_done x.standing ≡ false
 
@@ -66,7 +57,7 @@ RecordsStand s =
 abbrev pub RecordsHeld : State → Type 0
 RecordsHeld s =
     (a ep g : ℕ) (x : Grant)
-    → is_of g (ep_at (context_of a s.contexts) ep) ≡ true
+    → is_record_of g (endpoint_at (context_of a s.contexts) ep) ≡ true
     → grant_in s.grants g ≡ Some x
     → holder x.line ≡ a
 

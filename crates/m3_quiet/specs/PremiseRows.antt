@@ -17,10 +17,10 @@ use Rattle.m3_base.specs.Placement.Step.{placement_step}
 use Rattle.m3_base.specs.Placement.Opening.{opening_placement}
 use Rattle.m3_base.specs.Ideal.State.{is_number}
 use Rattle.m3_base.specs.Placement.Driver.{next_event}
-use Rattle.m3_base.specs.Examples.Driver.{Running, driven}
+use Rattle.m3_base.specs.Examples.Driver.{Running, driven, two_on_one_tile_start}
 use Rattle.m3_base.specs.Examples.Placement.{state_of}
 use Rattle.m3_base.specs.DriverRun.Configuration.{places_after as places_of}
-use Rattle.m3_base.specs.Examples.Scripts.{late_credit_setup}
+use Rattle.m3_base.specs.Examples.Scripts.{late_credit_setup, switch_keeps_unread_setup}
 use Rattle.m3_base.specs.Examples.Scripts.{late_credit}
 use Rattle.m3_base.specs.Examples.Scripts.{revoke_while_writing_setup}
 use Rattle.m3_base.specs.Examples.Scripts.{revoke_while_writing}
@@ -30,13 +30,11 @@ use Rattle.m3_base.specs.Examples.Scripts.{close_while_replying_setup}
 use Rattle.m3_base.specs.Examples.Scripts.{close_while_replying}
 use Rattle.m3_base.specs.Examples.Scripts.{sender_leaves_setup}
 use Rattle.m3_base.specs.Examples.Scripts.{sender_leaves}
-use Rattle.m3_base.specs.Examples.Scripts.{restore_waits_setup}
 use Rattle.m3_base.specs.Examples.Scripts.{restore_waits}
 use Rattle.m3_base.specs.Examples.Scripts.{switch_keeps_unread_setup}
 use Rattle.m3_base.specs.Examples.Scripts.{switch_keeps_unread}
 use Rattle.m3_quiet.specs.Potential.{is_there}
 use Rattle.m3_quiet.specs.Schedule.{has_yield}
-use Rattle.m3_quiet.specs.Rows.{two_on_one_tile_start}
 
 -- a link that isn't empty: its tiles, its front and the rest
 pub record Full : Type 0 where
@@ -188,8 +186,8 @@ pub switch_keeps_unread_sound :
 switch_keeps_unread_sound = refl
 
 pub restore_waits_sound :
-    sound_along (opening 16 restore_waits_setup)
-    (opening_placement [] restore_waits_setup) restore_waits
+    sound_along (opening 16 switch_keeps_unread_setup)
+    (opening_placement [] switch_keeps_unread_setup) restore_waits
     ≡ true
 restore_waits_sound = refl
 

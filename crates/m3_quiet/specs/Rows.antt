@@ -1,10 +1,8 @@
 -- The sum before and after each entry of a run of two activities on one tile.
 use Rattle.std.specs.Prelude.{◌≡◌, ℕ, zero, suc, List, [], ◌∷◌, length}
 use Rattle.std.proofs.Common.{refl}
-use Rattle.m3_base.specs.Ideal.Opening.{opening}
-use Rattle.m3_base.specs.Placement.Opening.{opening_placement}
 use Rattle.m3_base.specs.Placement.Driver.{next_event}
-use Rattle.m3_base.specs.Examples.Driver.{Running, Programs, driven, two_on_one_tile_setup, two_on_one_tile_programs}
+use Rattle.m3_base.specs.Examples.Driver.{Running, Programs, driven, two_on_one_tile_start}
 use Rattle.m3_quiet.specs.Potential.{Units, potential}
 
 -- a list program has a call for each of its items
@@ -17,15 +15,6 @@ sums zero r = []
 sums (suc n) r =
     potential r.state r.places (calls_left r.programs) 0
     ∷ sums n (driven r (next_event r.state r.places []))
-
-abbrev pub two_on_one_tile_start : Running
-two_on_one_tile_start =
-    record {
-      state = opening 64 two_on_one_tile_setup;
-      places = opening_placement (0 ∷ 1 ∷ []) two_on_one_tile_setup;
-      programs = two_on_one_tile_programs;
-      entries = [];
-    }
 
 pub two_on_one_tile_sums :
     sums 16 two_on_one_tile_start

@@ -26,10 +26,11 @@ use Rattle.m3_base.specs.Placement.Driver.{next_event}
 use Rattle.m3_quiet.specs.Potential.{Units, potential, is_there}
 use Rattle.m3_base.specs.DriverRun.Configuration.{orders_after}
 use Rattle.m3_base.specs.DriverRun.Budget.{budget, budget_of, act_count}
-use Rattle.m3_quiet.specs.Descent.{HasCall, units_after, is_idle, Falls, unit_total, unit_acts}
+use Rattle.m3_quiet.specs.Descent.{HasCall, units_after, Falls, unit_total, unit_acts}
 use Rattle.m3_quiet.specs.Facts.{Facts, Fine, LinksKnown, HoldsKnown, RecordsStand, RecordsHeld}
 use Rattle.m3_quiet.specs.Schedule.{Scheduled, has_yield, link_at}
 use Rattle.m3_quiet.specs.Flags.{Flagged, has_saved}
+use Rattle.m3_base.specs.Journal.Entry.{is_idle}
 
 -- ---- events that the driver, or a part of its own, can make
 

@@ -1,20 +1,30 @@
 -- A short journal, for worked runs: an activity sends one byte to another on its tile; both have
 -- list programs, and the driver chooses.
-use Rattle.std.specs.Prelude.{ℕ, List, [], ◌∷◌, Option, Some, None}
+use Rattle.std.specs.Prelude.{ℕ, List, [], ◌∷◌, ◌++◌, Some, None}
 use Rattle.m3_base.specs.declared.command.Command.{Command}
 use Rattle.m3_base.specs.declared.command.Answer.{Answer}
 use Rattle.m3_base.specs.declared.order.GrantLine.{GrantLine}
 use Rattle.m3_base.specs.declared.order.Order.{Order}
 use Rattle.m3_base.specs.declared.setup_line.SetupLine.{SetupLine}
-use Rattle.m3_base.specs.declared.ids.FlightId.{FlightId}
 use Rattle.m3_base.specs.declared.event.Event.{Event}
 use Rattle.m3_base.specs.declared.event.Made.{Made}
 use Rattle.m3_base.specs.declared.event.Said.{Said}
 use Rattle.m3_base.specs.declared.event.Entry.{Entry}
 use Rattle.m3_base.specs.Setup.Rules.{SetupValue}
+use Rattle.m3_base.specs.Examples.Scripts.{entry_with}
+use Rattle.m3_base.specs.Ideal.Flights.{flight_name}
 
 abbrev pub one_byte : Command
 one_byte = Command.Send 0 (42 ∷ []) None
+
+-- two activities on one tile, and a send grant of the first to the second
+abbrev pub short_lines : List SetupLine
+short_lines =
+    SetupLine.Act 0 2
+    ∷ SetupLine.Act 1 2
+    ∷ SetupLine.Grant (GrantLine.Recv 1 0 1 4)
+    ∷ SetupLine.Grant (GrantLine.Send 0 0 1 5 1)
+    ∷ []
 
 abbrev pub short_setup : SetupValue
 short_setup =
@@ -22,32 +32,22 @@ short_setup =
       tiles = 3;
       memory = 64;
       lines =
-          SetupLine.Act 0 2
-          ∷ SetupLine.Act 1 2
-          ∷ SetupLine.Grant (GrantLine.Recv 1 0 1 4)
-          ∷ SetupLine.Grant (GrantLine.Send 0 0 1 5 1)
-          ∷ SetupLine.Item 0 one_byte
+          short_lines
+          ++ SetupLine.Item 0 one_byte
           ∷ SetupLine.AwaitItem 1 0
           ∷ SetupLine.Item 1 (Command.Fetch 0)
           ∷ [];
     }
 
-abbrev pub first_flight : FlightId
-first_flight = record { issuer = 0; number = 1 }
-
-abbrev pub entry_with : Event → Option Made → Said → Option ℕ → Entry
-entry_with event made said restore =
-    record { event = event; outcome = record { made = made; said = said; restore = restore } }
-
 -- the message bounces, since its receiver is away; once the sender has ended, the receiver comes to
 -- its turn
 abbrev pub short_journal : List Entry
 short_journal =
-    entry_with (Event.Turn 0) (Some (Made.Command one_byte)) (Said.Flying first_flight) None
-    ∷ entry_with (Event.Take 2 2) None (Said.Bounced first_flight) None
-    ∷ entry_with (Event.Take 0 2) None (Said.Held first_flight 1) None
-    ∷ entry_with (Event.Tend 1) None (Said.Landed first_flight) None
-    ∷ entry_with (Event.Take 2 0) None (Said.Answered first_flight Answer.Sent None) None
+    entry_with (Event.Turn 0) (Some (Made.Command one_byte)) (Said.Flying (flight_name 0 1)) None
+    ∷ entry_with (Event.Take 2 2) None (Said.Bounced (flight_name 0 1)) None
+    ∷ entry_with (Event.Take 0 2) None (Said.Held (flight_name 0 1) 1) None
+    ∷ entry_with (Event.Tend 1) None (Said.Landed (flight_name 0 1)) None
+    ∷ entry_with (Event.Take 2 0) None (Said.Answered (flight_name 0 1) Answer.Sent None) None
     ∷ entry_with (Event.Turn 0) (Some Made.End) Said.Ended None
     ∷ entry_with (Event.Take 0 2) None (Said.Yielded 0) None
     ∷ entry_with (Event.Order (Order.Switch 2 1)) None (Said.Save 0) None

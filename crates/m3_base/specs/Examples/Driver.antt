@@ -2,13 +2,8 @@
 use Rattle.std.specs.Prelude.{◌≡◌, ℕ, zero, suc, ◌==◌, Bool, true, false, List, [], ◌∷◌, ◌++◌, Option, Some, None, if◌then◌else◌}
 use Rattle.std.proofs.Common.{refl}
 use Rattle.m3_base.specs.declared.command.Command.{Command}
-use Rattle.m3_base.specs.declared.order.GrantLine.{GrantLine}
-use Rattle.m3_base.specs.declared.setup_line.SetupLine.{SetupLine}
-use Rattle.m3_base.specs.declared.command.Answer.{Answer}
-use Rattle.m3_base.specs.declared.order.Order.{Order}
 use Rattle.m3_base.specs.declared.event.Event.{Event}
 use Rattle.m3_base.specs.declared.event.Made.{Made}
-use Rattle.m3_base.specs.declared.event.Said.{Said}
 use Rattle.m3_base.specs.declared.event.Entry.{Entry}
 use Rattle.m3_base.specs.Ideal.State.{State}
 use Rattle.m3_base.specs.Ideal.Opening.{opening}
@@ -18,7 +13,8 @@ use Rattle.m3_base.specs.Placement.Step.{placement_step}
 use Rattle.m3_base.specs.Placement.Opening.{opening_placement}
 use Rattle.m3_base.specs.Placement.Turn.{is_due_quantum}
 use Rattle.m3_base.specs.Placement.Driver.{next_event}
-use Rattle.m3_base.specs.Examples.Scripts.{id}
+use Rattle.m3_base.specs.Examples.Scripts.{entry_with}
+use Rattle.m3_base.specs.Calls.ShortJournal.{one_byte, short_lines, short_journal}
 
 -- list programs: what is left of each
 abbrev pub Programs : Type 0
@@ -67,7 +63,7 @@ programs_after p ps (Event.Turn a) m = if takes_item (actor a p) then drop_item 
 programs_after p ps e m = ps
 
 abbrev pub entry_of : Event → Option Made → PlacementResult → Entry
-entry_of e m d = record { event = e; outcome = record { made = m; said = d.said; restore = d.restore } }
+entry_of e m d = entry_with e m d.said d.restore
 
 pub record Running : Type 0 where
   pub state : State
@@ -93,30 +89,17 @@ abbrev pub auto : ℕ → Running → Running
 auto zero r = r
 auto (suc n) r = auto n (driven r (next_event r.state r.places []))
 
-abbrev pub two_on_one_tile_setup : List SetupLine
-two_on_one_tile_setup = SetupLine.Act 0 2 ∷ SetupLine.Act 1 2 ∷ SetupLine.Grant (GrantLine.Recv 1 0 1 4) ∷ SetupLine.Grant (GrantLine.Send 0 0 1 5 1) ∷ []
-
 abbrev pub two_on_one_tile_programs : Programs
-two_on_one_tile_programs = (0, Made.Command (Command.Send 0 (42 ∷ []) None) ∷ []) ∷ (1, Made.Await 0 ∷ Made.Command (Command.Fetch 0) ∷ []) ∷ []
+two_on_one_tile_programs = (0, Made.Command one_byte ∷ []) ∷ (1, Made.Await 0 ∷ Made.Command (Command.Fetch 0) ∷ []) ∷ []
 
-abbrev pub entry : Event → Option Made → Said → Option ℕ → Entry
-entry e m s r = record { event = e; outcome = record { made = m; said = s; restore = r } }
+abbrev pub two_on_one_tile_start : Running
+two_on_one_tile_start =
+    record {
+      state = opening 64 short_lines;
+      places = opening_placement (0 ∷ 1 ∷ []) short_lines;
+      programs = two_on_one_tile_programs;
+      entries = [];
+    }
 
-pub two_on_one_tile : (auto 20 (record { state = opening 64 two_on_one_tile_setup; places = opening_placement (0 ∷ 1 ∷ []) two_on_one_tile_setup; programs = two_on_one_tile_programs; entries = [] })).entries ≡ (
-    entry (Event.Turn 0) (Some (Made.Command (Command.Send 0 (42 ∷ []) None))) (Said.Flying (id 0 1)) None
-    ∷ entry (Event.Take 2 2) None (Said.Bounced (id 0 1)) None
-    ∷ entry (Event.Take 0 2) None (Said.Held (id 0 1) 1) None
-    ∷ entry (Event.Tend 1) None (Said.Landed (id 0 1)) None
-    ∷ entry (Event.Take 2 0) None (Said.Answered (id 0 1) Answer.Sent None) None
-    ∷ entry (Event.Turn 0) (Some Made.End) Said.Ended None
-    ∷ entry (Event.Take 0 2) None (Said.Yielded 0) None
-    ∷ entry (Event.Order (Order.Switch 2 1)) None (Said.Save 0) None
-    ∷ entry (Event.Take 2 0) None (Said.Saving 0) None
-    ∷ entry (Event.Take 0 2) None (Said.Saved 0) (Some 1)
-    ∷ entry (Event.Take 2 0) None (Said.Current 1) None
-    ∷ entry (Event.Turn 1) (Some (Made.Await 0)) Said.Awake None
-    ∷ entry (Event.Turn 1) (Some (Made.Command (Command.Fetch 0))) (Said.Message 0 0 5 (42 ∷ [])) None
-    ∷ entry (Event.Turn 1) (Some Made.End) Said.Ended None
-    ∷ entry (Event.Take 0 2) None (Said.Yielded 1) None
-    ∷ [])
+pub two_on_one_tile : (auto 20 two_on_one_tile_start).entries ≡ short_journal
 two_on_one_tile = refl

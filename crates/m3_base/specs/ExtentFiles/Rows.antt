@@ -1,9 +1,8 @@
 -- Worked rows: steps of lines on files, with their refusals, and a journal that opens and closes a
 -- file.
-use Rattle.std.specs.Prelude.{◌≡◌, ℕ, false, List, [], ◌∷◌, ◌++◌, take, replicate, Some}
+use Rattle.std.specs.Prelude.{◌≡◌, ℕ, false, List, [], ◌∷◌, ◌++◌, take, replicate, Some, None}
 use Rattle.std.proofs.Common.{refl}
 use Rattle.m3_base.specs.declared.packet.Perm.{Perm}
-use Rattle.m3_base.specs.declared.ids.FlightId.{FlightId}
 use Rattle.m3_base.specs.declared.order.GrantLine.{GrantLine}
 use Rattle.m3_base.specs.declared.order.FileLine.{FileLine}
 use Rattle.m3_base.specs.declared.order.Order.{Order}
@@ -17,7 +16,9 @@ use Rattle.m3_base.specs.ExtentFiles.Table.{File, Table}
 use Rattle.m3_base.specs.ExtentFiles.Extents.{free_blocks, content_of}
 use Rattle.m3_base.specs.ExtentFiles.Steps.{file_step}
 use Rattle.m3_base.specs.ExtentFiles.JournalTables.{table_of}
-use Rattle.m3_base.specs.ExtentFiles.ScriptEntries.{Follows, plain_outcome}
+use Rattle.m3_base.specs.ExtentFiles.ScriptEntries.{Follows}
+use Rattle.m3_base.specs.Examples.Scripts.{entry}
+use Rattle.m3_base.specs.Ideal.Flights.{flight_name}
 
 -- ---- one step
 
@@ -119,12 +120,6 @@ files_setup =
           ∷ [];
     }
 
-abbrev pub entry_of : Event → Said → Entry
-entry_of event said = record { event = event; outcome = plain_outcome said }
-
-abbrev pub kernel_flight : ℕ → FlightId
-kernel_flight n = record { issuer = 64; number = n }
-
 abbrev pub open_line : Event
 open_line = Event.File (FileLine.Open name_a 0 0 1 Perm.R)
 
@@ -134,10 +129,10 @@ part_order = Event.Order (Order.Grant (GrantLine.Part 0 1 1 0 10 Perm.R))
 -- a file of ten bytes is made and opened
 abbrev pub open_entries : List Entry
 open_entries =
-    entry_of (Event.File (FileLine.Create name_a)) Said.Created
-    ∷ entry_of (Event.File (FileLine.Extend name_a 10)) Said.Extended
-    ∷ entry_of open_line (Said.Part 1 0 10)
-    ∷ entry_of part_order (Said.Granted 2 (kernel_flight 1) false)
+    entry (Event.File (FileLine.Create name_a)) Said.Created None
+    ∷ entry (Event.File (FileLine.Extend name_a 10)) Said.Extended None
+    ∷ entry open_line (Said.Part 1 0 10) None
+    ∷ entry part_order (Said.Granted 2 (flight_name 64 1) false) None
     ∷ []
 
 abbrev pub open_events : List Event
@@ -169,10 +164,10 @@ open_without_order follows = follows.2.2.2
 abbrev pub close_entries : List Entry
 close_entries =
     open_entries
-    ++ entry_of (Event.File (FileLine.Close 2)) Said.Revoke
-    ∷ entry_of (Event.Order (Order.Revoke 2)) (Said.Revoking 2)
-    ∷ entry_of Event.Close (Said.CloseSent 2 (kernel_flight 2) false)
-    ∷ entry_of (Event.Take 0 2) (Said.Done 2 (Some 2))
+    ++ entry (Event.File (FileLine.Close 2)) Said.Revoke None
+    ∷ entry (Event.Order (Order.Revoke 2)) (Said.Revoking 2) None
+    ∷ entry Event.Close (Said.CloseSent 2 (flight_name 64 2) false) None
+    ∷ entry (Event.Take 0 2) (Said.Done 2 (Some 2)) None
     ∷ []
 
 pub closing_table :

@@ -11,14 +11,12 @@ use Rattle.m3_base.specs.Ideal.Context.{Kind, Sending, Replying, Reading, Writin
 use Rattle.m3_base.specs.Ideal.Issue.{no_endpoint}
 use Rattle.m3_base.specs.Ideal.Landing.{land_refusal, has_live, flying_at}
 use Rattle.m3_base.specs.Ideal.Arrival.{Arrival, arrive}
+use Rattle.m3_base.specs.Limits.{is_within}
 
 -- ---- ranges of numbers
 
-abbrev pub is_between : ℕ → ℕ → ℕ → Bool
-is_between low high n = nat_le low n && nat_le n high
-
 abbrev pub is_grant_number : ℕ → Bool
-is_grant_number = is_between 1 4096
+is_grant_number = is_within 1 4096
 
 -- the reply endpoint of a header and its grant: none, or both
 abbrev pub is_reply_place : ℕ → ℕ → Bool
@@ -40,8 +38,8 @@ is_message m = is_header m.header && (m.header.length == length m.payload)
 
 -- a record as the kernel installs it
 abbrev pub is_form : Fresh → Bool
-is_form (Fresh.Send grant to to_ep to_grant label size limit) = is_between 1 512 size && is_between 1 32 limit
-is_form (Fresh.Receive grant slots size) = is_between 1 32 slots && is_between 1 512 size
+is_form (Fresh.Send grant to to_ep to_grant label size limit) = is_within 1 512 size && is_within 1 32 limit
+is_form (Fresh.Receive grant slots size) = is_within 1 32 slots && is_within 1 512 size
 is_form (Fresh.Memory grant start len perm) = nat_lt 0 len && nat_le (start + len) 1048576
 
 -- ---- credits that come back

@@ -1,5 +1,5 @@
 -- An activity's context: what each endpoint holds, and which commands fly.
-use Rattle.std.specs.Prelude.{ℕ, Bool, false, List, [], replicate, slice_index_or, slice_set}
+use Rattle.std.specs.Prelude.{ℕ, Bool, false, List, [], replicate, slice_index_or, slice_set, Option, Some, None}
 use Rattle.m3_base.specs.declared.message.Message.{Message}
 use Rattle.m3_base.specs.declared.packet.Perm.{Perm}
 use Rattle.m3_base.specs.declared.packet.Fresh.{Fresh}
@@ -65,8 +65,18 @@ new_context a = record { act = a; endpoints = replicate 16 Free; flying = []; ne
 abbrev pub endpoint : Context → ℕ → Endpoint
 endpoint c ep = slice_index_or c.endpoints ep Free
 
+-- free, where there is no context
+abbrev pub endpoint_at : Option Context → ℕ → Endpoint
+endpoint_at None ep = Free
+endpoint_at (Some c) ep = endpoint c ep
+
 abbrev pub with_endpoint : Context → ℕ → Endpoint → Context
 with_endpoint c ep e = record c { endpoints = slice_set c.endpoints ep e }
+
+-- a receive record with no message yet
+abbrev pub empty_record : ℕ → ℕ → ℕ → ReceiveRecord
+empty_record grant slots size =
+    record { grant = grant; slots = slots; size = size; unread = []; fetched = []; next_token = 0; closing = false }
 
 -- a new record of this form
 abbrev pub new_endpoint : Fresh → Endpoint
@@ -82,7 +92,6 @@ new_endpoint (Fresh.Send grant to to_ep to_grant label size limit) =
       held = limit;
       closing = false;
     })
-new_endpoint (Fresh.Receive grant slots size) =
-    Receives (record { grant = grant; slots = slots; size = size; unread = []; fetched = []; next_token = 0; closing = false })
+new_endpoint (Fresh.Receive grant slots size) = Receives (empty_record grant slots size)
 new_endpoint (Fresh.Memory grant start length perm) =
     Reaches (record { grant = grant; start = start; length = length; perm = perm; closing = false })

@@ -1,5 +1,5 @@
 -- The flights of an ideal state: packets under their names.
-use Rattle.std.specs.Prelude.{ℕ, Bool, ◌&&◌, ◌||◌, ◌==◌, nat_lt, List, Option}
+use Rattle.std.specs.Prelude.{ℕ, Bool, ◌&&◌, ◌||◌, ◌==◌, nat_lt, List, [], ◌∷◌, Option}
 use Rattle.m3_base.specs.declared.ids.FlightId.{FlightId}
 use Rattle.m3_base.specs.declared.packet.Packet.{Packet}
 use Rattle.m3_base.specs.Lists.Keyed as keyed
@@ -7,6 +7,9 @@ use Rattle.m3_base.specs.Lists.Keyed as keyed
 -- the issuer that stands for the kernel
 abbrev pub kernel : ℕ
 kernel = 64
+
+abbrev pub flight_name : ℕ → ℕ → FlightId
+flight_name a n = record { issuer = a; number = n }
 
 abbrev pub same_name : FlightId → FlightId → Bool
 same_name a b = (a.issuer == b.issuer) && (a.number == b.number)
@@ -38,3 +41,8 @@ change_flight = keyed.with_replaced name_of same_name
 -- the flights but that one
 abbrev pub end_flight : FlightId → List Packet → List Packet
 end_flight = keyed.without name_of same_name
+
+-- packets in the order of their names
+abbrev pub sorted_by_name : List Packet → List Packet
+sorted_by_name [] = []
+sorted_by_name (p ∷ ps) = new_flight p (sorted_by_name ps)

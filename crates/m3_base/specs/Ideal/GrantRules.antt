@@ -9,7 +9,7 @@ use Rattle.m3_base.specs.declared.packet.Perm.{Perm}
 use Rattle.m3_base.specs.declared.event.No.{No}
 use Rattle.m3_base.specs.Ideal.Flights.{kernel, new_flight}
 use Rattle.m3_base.specs.Ideal.Issue.{may_read, may_write}
-use Rattle.m3_base.specs.Ideal.State.{Standing, Live, Closing, Closed, Grant, State, holder, holder_ep, parent_of, grant_in, parent_in, undone, is_done, is_live, is_child}
+use Rattle.m3_base.specs.Ideal.State.{Standing, Live, Closing, Closed, Done, Grant, State, holder, holder_ep, parent_of, grant_in, parent_in, undone, is_done, is_live, is_child}
 
 -- ---- the record that a new grant's line stands for
 
@@ -87,10 +87,13 @@ kernel_id s = record { issuer = kernel; number = s.kernel_next }
 abbrev pub new_grant : GrantLine → Fresh → Grant
 new_grant line f = record { line = line; fresh = f; standing = Live; close_sent = false; is_root = false }
 
+abbrev pub new_install : State → GrantLine → Fresh → Packet
+new_install s line f = Packet.Install (kernel_id s) (holder line) (holder_ep line) f
+
 abbrev pub with_grant_made : State → GrantLine → Fresh → State
 with_grant_made s line f =
     record s {
-      flights = new_flight (Packet.Install (kernel_id s) (holder line) (holder_ep line) f) s.flights;
+      flights = new_flight (new_install s line f) s.flights;
       kernel_next = s.kernel_next + 1;
       grants = s.grants ++ new_grant line f ∷ [];
     }
@@ -130,8 +133,11 @@ set_some gs g change (Some x) = slice_set gs (g - 1) (change x)
 abbrev pub change_grant : List Grant → ℕ → (Grant → Grant) → List Grant
 change_grant gs g change = set_some gs g change (grant_in gs g)
 
+abbrev pub to_root : Grant → Grant
+to_root x = record x { is_root = true }
+
 abbrev pub with_root_closing : List Grant → ℕ → List Grant
-with_root_closing gs g = change_grant gs g (λ x. record x { is_root = true })
+with_root_closing gs g = change_grant gs g to_root
 
 abbrev pub after_revoke : List Grant → ℕ → List Grant
 after_revoke gs g = with_root_closing (closing_where (marks_under g 1 [] gs) gs) g
@@ -151,10 +157,16 @@ abbrev pub may_close : List Grant → ℕ → Option Grant → Bool
 may_close gs g None = false
 may_close gs g (Some x) = is_closing_grant x.standing && (not x.close_sent && not (list_any (is_open_child g) gs))
 
+abbrev pub to_sent : Grant → Grant
+to_sent x = record x { close_sent = true }
+
+abbrev pub to_done : Grant → Grant
+to_done x = record x { standing = Done }
+
 abbrev pub close_sent : State → ℕ → Grant → State
 close_sent s g x =
     record s {
       flights = new_flight (Packet.Close (kernel_id s) (holder x.line) (holder_ep x.line) g) s.flights;
       kernel_next = s.kernel_next + 1;
-      grants = change_grant s.grants g (λ y. record y { close_sent = true });
+      grants = change_grant s.grants g to_sent;
     }

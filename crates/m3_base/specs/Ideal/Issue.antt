@@ -216,6 +216,11 @@ may_write Perm.R = false
 may_write Perm.W = true
 may_write Perm.Rw = true
 
+-- a write, or a read, is permitted
+abbrev pub permits : Bool → Perm → Bool
+permits true perm = may_write perm
+permits false perm = may_read perm
+
 abbrev pub access_refusal : MemoryRecord → ℕ → ℕ → Bool → Option Refusal
 access_refusal r off len allowed =
     first_of (

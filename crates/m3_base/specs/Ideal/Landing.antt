@@ -97,6 +97,10 @@ grant_of (Sends r) = Some r.grant
 grant_of (Receives r) = Some r.grant
 grant_of (Reaches r) = Some r.grant
 
+-- the endpoint has a record of this grant
+abbrev pub is_record_of : ℕ → Endpoint → Bool
+is_record_of g e = is_number g (grant_of e)
+
 abbrev pub is_closing : Endpoint → Bool
 is_closing Free = false
 is_closing (Sends r) = r.closing

@@ -15,6 +15,7 @@ use Rattle.m3_base.specs.Ideal.Landing.{message_id, land_refusal}
 use Rattle.m3_base.specs.Ideal.State.{State, context_of}
 use Rattle.m3_base.specs.Ideal.Step.{IdealResult, ideal_step}
 use Rattle.m3_base.specs.Ideal.Credits.{is_sent_by}
+use Rattle.m3_base.specs.Lists.Prefixes.{IsPrefix}
 
 -- the message alone, if it is one of g
 abbrev pub only_of : ℕ → Message → List Message
@@ -115,9 +116,6 @@ is_named ids m = list_any (same_name (message_id m)) ids
 -- without those that were refused
 abbrev pub messages_named : List FlightId → List Message → List Message
 messages_named ids ms = filter (λ m. not (is_named ids m)) ms
-
-abbrev pub IsPrefix : List Message → List Message → Type 0
-IsPrefix xs ys = (rest : List Message) × (xs ++ rest ≡ ys)
 
 pub record Laws (g : ℕ) (s : State) (ts : List Step) : Type 0 where
   pub landing : collect (landed_at g) s ts ≡ messages_named (names_of (flying_of g (final s ts).flights)) (messages_named (collect (refused_at g) s ts) (collect (issued_at g) s ts))

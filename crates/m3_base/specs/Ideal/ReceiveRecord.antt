@@ -19,6 +19,15 @@ with_fetched r m rest =
       fetched = r.fetched ++ record { token = r.next_token; marked = false; message = m } ∷ [];
     }
 
+-- the token of the message that a fetch takes
+abbrev pub fetched_token : ReceiveRecord → List Message → Option ℕ
+fetched_token r [] = None
+fetched_token r (m ∷ rest) = Some r.next_token
+
+abbrev pub fetched_one : ReceiveRecord → List Message → ReceiveRecord
+fetched_one r [] = r
+fetched_one r (m ∷ rest) = with_fetched r m rest
+
 -- the fetched message of this token
 abbrev pub fetched_at : ℕ → List Fetched → Option Fetched
 fetched_at t [] = None
@@ -28,6 +37,10 @@ fetched_at t (f ∷ fs) = if f.token == t then Some f else fetched_at t fs
 abbrev pub unmarked_message : Option Fetched → Option Message
 unmarked_message None = None
 unmarked_message (Some f) = if f.marked then None else Some f.message
+
+abbrev pub has_mark : Option Fetched → Bool
+has_mark None = false
+has_mark (Some f) = f.marked
 
 abbrev pub without_token : ℕ → List Fetched → List Fetched
 without_token t [] = []

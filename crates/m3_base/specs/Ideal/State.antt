@@ -1,5 +1,5 @@
 -- The ideal state: a context for each activity, the flights, the memory and the grants, and no place.
-use Rattle.std.specs.Prelude.{ℕ, ◌-◌, Bool, true, false, ◌==◌, nat_lt, List, slice_get, Option, Some, None, if◌then◌else◌}
+use Rattle.std.specs.Prelude.{◌≡◌, ℕ, ◌-◌, Bool, true, false, ◌==◌, nat_lt, List, [], ◌∷◌, slice_get, Option, Some, None, if◌then◌else◌}
 use Rattle.m3_base.specs.declared.packet.Fresh.{Fresh}
 use Rattle.m3_base.specs.declared.order.GrantLine.{GrantLine}
 use Rattle.m3_base.specs.declared.packet.Packet.{Packet}
@@ -44,6 +44,11 @@ new_context_in = keyed.with_inserted act_of act_before
 abbrev pub put_context : Context → List Context → List Context
 put_context = keyed.with_replaced act_of same_act
 
+-- no two are of one activity
+abbrev pub DistinctActs : List Context → Type 0
+DistinctActs [] = Unit {0}
+DistinctActs (c ∷ cs) = (context_of c.act cs ≡ None) × DistinctActs cs
+
 -- ---- what a line says
 
 abbrev pub parent_of : GrantLine → Option ℕ
@@ -76,6 +81,12 @@ is_done _ = false
 abbrev pub is_live : Standing → Bool
 is_live Live = true
 is_live _ = false
+
+-- live or closing
+abbrev pub is_open : Standing → Bool
+is_open Live = true
+is_open Closing = true
+is_open _ = false
 
 -- a grant that isn't done
 abbrev pub undone : Option Grant → Option Grant

@@ -15,7 +15,7 @@ use Rattle.m3_base.specs.Ideal.Context.{Flying, Endpoint, Free, Receives, Contex
 use Rattle.m3_base.specs.Ideal.Issue.{IssueOutcome, Issued, issue}
 use Rattle.m3_base.specs.Ideal.Landing.{Landed, land, has_send, with_credit, bytes_at, written_at, has_live, has_closing, closed_at, flies_at, flying_at, context_after_answer, freed_grant}
 use Rattle.m3_base.specs.Ideal.State.{Closed, Done, Grant, State, context_of, put_context, holder, holder_ep, grant_in, parent_in, parent_of, undone}
-use Rattle.m3_base.specs.Ideal.GrantRules.{form, make_refusal, with_grant_made, revoke_refusal, after_revoke, may_close, close_sent, change_grant, kernel_id, is_closed_grant}
+use Rattle.m3_base.specs.Ideal.GrantRules.{form, make_refusal, with_grant_made, revoke_refusal, after_revoke, may_close, close_sent, change_grant, kernel_id, is_closed_grant, to_done}
 
 -- what a step says
 pub data Label : Type 0 where
@@ -49,12 +49,12 @@ abbrev pub with_packet : Option Packet → List Packet → List Packet
 with_packet None fs = fs
 with_packet (Some p) fs = new_flight p fs
 
+abbrev pub after_issue : State → Issued → State
+after_issue s i = record s { contexts = put_context i.context s.contexts; flights = with_packet i.packet s.flights }
+
 abbrev pub issued_in : State → Option Issued → Option IdealResult
 issued_in s None = None
-issued_in s (Some i) =
-    step_to (At_issue i.told) (
-    record s { contexts = put_context i.context s.contexts; flights = with_packet i.packet s.flights }
-    )
+issued_in s (Some i) = step_to (At_issue i.told) (after_issue s i)
 
 abbrev pub issue_in : State → Option Context → Command → Option IdealResult
 issue_in s None c = None
@@ -74,11 +74,16 @@ abbrev pub landing_word : FlightId → Option Refusal → Label
 landing_word id None = Landing id
 landing_word id (Some x) = Refusing id x
 
+-- the receiver's context, and the answer in place of the message
+abbrev pub after_landing : State → Context → Packet → State
+after_landing s c answer = record s { contexts = put_context c s.contexts; flights = change_flight answer s.flights }
+
+-- the context, and the flight ends
+abbrev pub after_ending : State → FlightId → Context → State
+after_ending s id c = record s { contexts = put_context c s.contexts; flights = end_flight id s.flights }
+
 abbrev pub landed_in : State → FlightId → Landed → Option IdealResult
-landed_in s id l =
-    step_to (landing_word id l.refused) (
-    record s { contexts = put_context l.context s.contexts; flights = change_flight l.answer s.flights }
-    )
+landed_in s id l = step_to (landing_word id l.refused) (after_landing s l.context l.answer)
 
 abbrev pub message_in : State → FlightId → ℕ → ℕ → Message → Option Context → Option IdealResult
 message_in s id ep g m None = None
@@ -88,7 +93,7 @@ abbrev pub credit_in : State → FlightId → ℕ → Option Context → Option 
 credit_in s id g None = None
 credit_in s id g (Some x) =
     step_to (if has_send g x then Credits id g else Discards id g) (
-    record s { contexts = put_context (with_credit g x) s.contexts; flights = end_flight id s.flights }
+    after_ending s id (with_credit g x)
     )
 
 abbrev pub number_of : Fresh → ℕ
@@ -96,12 +101,14 @@ number_of (Fresh.Send grant to to_ep to_grant label size limit) = grant
 number_of (Fresh.Receive grant slots size) = grant
 number_of (Fresh.Memory grant start length perm) = grant
 
+abbrev pub is_install_of : ℕ → Packet → Bool
+is_install_of g (Packet.Install id to ep f) = number_of f == g
+is_install_of g packet = false
+
 abbrev pub install_in : State → FlightId → ℕ → Fresh → Option Context → Option IdealResult
 install_in s id ep f None = None
 install_in s id ep f (Some x) =
-    step_to (Installs id (number_of f)) (
-    record s { contexts = put_context (with_endpoint x ep (new_endpoint f)) s.contexts; flights = end_flight id s.flights }
-    )
+    step_to (Installs id (number_of f)) (after_ending s id (with_endpoint x ep (new_endpoint f)))
 
 abbrev pub close_in : State → FlightId → ℕ → ℕ → Option Context → Option IdealResult
 close_in s id ep g None = None
@@ -109,10 +116,7 @@ close_in s id ep g (Some x) =
     if has_live g (endpoint x ep)
     then
     step_to (if flies_at ep x then Starts_closing id g else Closes_endpoint id g) (
-    record s {
-      contexts = put_context (with_endpoint x ep (closed_at (endpoint x ep))) s.contexts;
-      flights = end_flight id s.flights;
-    }
+    after_ending s id (with_endpoint x ep (closed_at (endpoint x ep)))
     )
     else None
 
@@ -141,9 +145,7 @@ abbrev pub settle_in : State → FlightId → Answer → Context → Option Flyi
 settle_in s id answer x None = None
 settle_in s id answer x (Some f) =
     let y = context_after_answer f answer x in
-    step_to (Answers id answer (freed_grant f.ep y)) (
-    record s { contexts = put_context y s.contexts; flights = end_flight id s.flights }
-    )
+    step_to (Answers id answer (freed_grant f.ep y)) (after_ending s id y)
 
 abbrev pub answer_in : State → FlightId → Answer → Option Context → Option IdealResult
 answer_in s id answer None = None
@@ -197,7 +199,7 @@ abbrev pub done_in : State → ℕ → Option Grant → Option IdealResult
 done_in s g None = None
 done_in s g (Some x) =
     if is_closed_grant x.standing
-    then step_to (Finishes g x.is_root) (record s { grants = change_grant s.grants g (λ y. record y { standing = Done }) })
+    then step_to (Finishes g x.is_root) (record s { grants = change_grant s.grants g to_done })
     else None
 
 -- ---- any step

@@ -83,6 +83,10 @@ abbrev pub shown_told : IssueOutcome → Said
 shown_told (Gives r) = shown_reply r
 shown_told (Flies id) = Said.Flying id
 
+abbrev pub is_idle : Said → Bool
+is_idle (Said.Idle why) = true
+is_idle said = false
+
 -- what words say, as an outcome; of a packet of the kernel's it is the place alone that tells whether it is held
 abbrev pub said_of : Bool → List Label → Option Said
 said_of held (At_issue t ∷ []) = Some (shown_told t)

@@ -24,11 +24,16 @@ abbrev pub land_here : ℕ → Placement → Option LandingResult → Option Pla
 land_here t p None = None
 land_here t p (Some c) = step_outcome c.said c.state (push_closed t c.freed (push_answer t c.answer p))
 
+-- data for another activity goes to the kernel; a read or a write is for none, and no tile but 1 takes it
+abbrev pub bounced : State → Placement → ℕ → FlightId → Option ℕ → Option PlacementResult
+bounced s p t id None = None
+bounced s p t id (Some a) = step_outcome (Said.Bounced id) s (with_token t 0 (Data id) p)
+
 abbrev pub take_data : State → Placement → ℕ → FlightId → Option PlacementResult
 take_data s p t id =
     if (t == 1) || is_here (target_of (flight id s.flights)) (current_of t p)
     then land_here t p (landing_result s id)
-    else step_outcome (Said.Bounced id) s (with_token t 0 (Data id) p)
+    else bounced s p t id (target_of (flight id s.flights))
 
 abbrev pub has_unread_at : Option Context → Option ℕ → Bool
 has_unread_at (Some c) (Some ep) = has_unread (endpoint c ep)

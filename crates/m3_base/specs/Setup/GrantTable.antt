@@ -138,20 +138,20 @@ with_found nodes i change (Some x) = slice_set nodes i (change x)
 abbrev pub with_node : List Node → ℕ → (Node → Node) → List Node
 with_node nodes i change = with_found nodes i change (slice_get nodes i)
 
-abbrev pub one_more : Node → Node
-one_more x = record x { children = x.children + 1 }
+abbrev pub with_child_more : Node → Node
+with_child_more x = record x { children = x.children + 1 }
 
 abbrev pub under_parent : List Node → Option ℕ → (Node → Node) → List Node
 under_parent nodes None change = nodes
 under_parent nodes (Some g) change = with_node nodes (g - 1) change
 
-abbrev pub has_room : Option Node → Bool
-has_room None = true
-has_room (Some x) = nat_lt x.children 4096
+abbrev pub has_child_room : Option Node → Bool
+has_child_room None = true
+has_child_room (Some x) = nat_lt x.children 4096
 
 abbrev pub has_room_under : List Node → Option ℕ → Bool
 has_room_under nodes None = true
-has_room_under nodes (Some g) = has_room (slice_get nodes (g - 1))
+has_room_under nodes (Some g) = has_child_room (slice_get nodes (g - 1))
 
 -- ---- a new grant's record
 

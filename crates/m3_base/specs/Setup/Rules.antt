@@ -46,8 +46,8 @@ no_lines tiles memory =
       has_files = false;
     }
 
-abbrev pub home_in : List (Option ℕ) → ℕ → Option ℕ
-home_in homes a = slice_index_or homes a None
+abbrev pub home_at : List (Option ℕ) → ℕ → Option ℕ
+home_at homes a = slice_index_or homes a None
 
 abbrev pub program_in : List ProgramKind → ℕ → ProgramKind
 program_in programs a = slice_index_or programs a ProgramKind.Absent
@@ -94,7 +94,7 @@ facts_of s = facts_with_lines s.lines (no_lines s.tiles s.memory)
 -- ---- the rules
 
 abbrev pub is_undeclared : ℕ → Facts → Bool
-is_undeclared a f = is_none (home_in f.homes a)
+is_undeclared a f = is_none (home_at f.homes a)
 
 -- the files lie in a range or part that may be read and written and has a block at least
 abbrev pub may_hold_files : Option Fresh → Bool
@@ -125,7 +125,7 @@ forbids_writer a chunk ring bytes f =
 
 -- whether a line is refused after these
 abbrev pub breaks_rule : SetupLine → Facts → Bool
-breaks_rule (SetupLine.Act a t) f = is_some (home_in f.homes a) || not (nat_le 2 t && nat_lt t f.tiles)
+breaks_rule (SetupLine.Act a t) f = is_some (home_at f.homes a) || not (nat_le 2 t && nat_lt t f.tiles)
 breaks_rule (SetupLine.Quantum q) f = f.has_quantum || not (is_within 1 64 q)
 breaks_rule (SetupLine.Grant line) f =
     is_undeclared (holder line) f || (not (is_in_limits line) || is_some (make_refusal f.memory f.grants line))

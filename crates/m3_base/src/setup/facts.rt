@@ -3,7 +3,7 @@
 ghost use Rattle.std.specs.Prelude.{◌≡◌, ℕ, ◌+◌, ◌*◌, ◌<◌, ◌≤◌, true, false, Some, None, ◌||◌, nat_lt, ◌++◌, ◌∷◌, [], length, slice_set, IfOk, OnOk, OnErr};
 ghost use Rattle.std.specs.List.{list_any};
 ghost use Rattle.m3_base.specs.Limits.{is_within};
-ghost use Rattle.m3_base.specs.Setup.Rules.{no_lines, home_in, program_in, chunks, facts_with_line, breaks_rule, is_undeclared, is_taken, is_pipe, is_fuel, is_machine, InRange, forbids_writer, facts_with_program, grant_added};
+ghost use Rattle.m3_base.specs.Setup.Rules.{no_lines, program_in, chunks, facts_with_line, breaks_rule, is_undeclared, is_taken, is_pipe, is_fuel, is_machine, InRange, forbids_writer, facts_with_program, grant_added, home_at};
 ghost use Rattle.m3_base.specs.Ideal.GrantRules.{make_refusal, fresh_of};
 ghost use Rattle.m3_base.specs.Ideal.State.{holder, holder_ep, grant_in};
 
@@ -129,7 +129,7 @@ impl SetupFacts {
 
     /// The home tile of an activity, where it is declared.
     pub fn home(&self, act: ActId) -> Option<TileId>
-        ensures { result ≡ home_in self.now.homes act }
+        ensures { result ≡ home_at self.now.homes act }
     {
         self.homes[act.number() as usize]
     }
@@ -143,7 +143,9 @@ impl SetupFacts {
 
     // Whether the activity may have no such program, or none of this weight.
     fn forbids_program(&self, act: ActId, kind: ProgramKind, weight: u32) -> bool
-        ensures { result ≡ (is_undeclared act self.now || (is_taken (program_in self.now.programs act) kind || nat_lt 16384 (self.now.weight + weight))) }
+        ensures { result ≡ (is_undeclared act self.now ||
+            (is_taken (program_in self.now.programs act) kind ||
+            nat_lt 16384 (self.now.weight + weight))) }
     {
         self.home(act).is_none()
             || is_taken(self.program(act), kind)

@@ -2,7 +2,7 @@
 
 ghost use Rattle.std.specs.Prelude.{◌≡◌, true, ◌+◌, ◌<◌, ◌≤◌, ◌++◌, ◌∷◌, [], length, IfOk, OnOk, OnErr, None, is_some, vec_len, vec_capacity};
 ghost use Rattle.m3_base.specs.Ideal.GrantRules.{make_refusal, fresh_of};
-ghost use Rattle.m3_base.specs.Setup.GrantTable.{grant_of, under_parent, has_room_under, one_more, new_node};
+ghost use Rattle.m3_base.specs.Setup.GrantTable.{grant_of, under_parent, has_room_under, new_node, with_child_more};
 ghost use Rattle.m3_base.specs.Setup.Rules.{grant_added, may_hold_files};
 ghost use Rattle.m3_base.specs.Ideal.State.{grant_in};
 
@@ -39,7 +39,7 @@ impl Model for SetupGrants {
 // The parent has one more child.
 fn add_child(nodes: &mut Vec<Node>, parent: Option<GrantId>)
     requires { has_room_under nodes.old.items parent ≡ true }
-    ensures items { nodes.new.items ≡ under_parent nodes.old.items parent one_more }
+    ensures items { nodes.new.items ≡ under_parent nodes.old.items parent with_child_more }
     ensures len { vec_len nodes.new ≡ vec_len nodes.old }
     ensures capacity { vec_capacity nodes.new ≡ vec_capacity nodes.old }
 {

@@ -6,11 +6,11 @@ use Rattle.m3_base.specs.declared.ids.FlightId.{FlightId}
 use Rattle.m3_base.specs.declared.packet.Packet.{Packet}
 use Rattle.m3_base.specs.declared.command.Answer.{Answer}
 use Rattle.m3_base.specs.Lists.Counting.{one}
-use Rattle.m3_base.specs.Ideal.Flights.{flight, end_flight}
+use Rattle.m3_base.specs.Ideal.Flights.{flight}
 use Rattle.m3_base.specs.Ideal.Context.{Kind, Sending, Replying, Reading, Writing, Flying, Fetched, Endpoint, Free, Sends, Receives, Reaches, Context, endpoint}
 use Rattle.m3_base.specs.Ideal.ReceiveRecord.{fetched_at, with_mark_at}
 use Rattle.m3_base.specs.Ideal.Landing.{endpoint_after_answer, context_after_answer, flying_at, without_flying, has_send, with_credit}
-use Rattle.m3_base.specs.Ideal.State.{State, context_of, put_context}
+use Rattle.m3_base.specs.Ideal.State.{State, context_of}
 use Rattle.m3_base.specs.Ideal.Credits.{gives_back, gives_back_by, is_refusal, carries_credit, credits}
 use Rattle.m3_laws.proofs.credits.EndpointWeights.{weight, context_weight, owed-without_token, owed-with_mark, weight-credited}
 use Rattle.m3_laws.proofs.credits.Issue.{weight-with_endpoint}
@@ -18,6 +18,7 @@ use Rattle.m3_laws.proofs.credits.Land.{credits_are}
 use Rattle.m3_laws.proofs.invariant.step.ChangeOneContext.{Moved, credits_ended}
 use Rattle.m3_base.specs.Ideal.FlightNames.{Distinct}
 use Rattle.m3_laws.specs.CommandRecord.{IsBeingRepliedTo, IsRecordFor}
+use Rattle.m3_base.specs.Ideal.Step.{after_ending}
 
 -- what an answer gives back is what its endpoint gains
 pub weight-settled : (g : ℕ) (k : Kind) (t : ℕ) (answer : Answer) (e : Endpoint) → IsRecordFor k t e → weight g (endpoint_after_answer k t answer e) ≡ weight g e + one (is_refusal answer && gives_back g k t e)
@@ -69,9 +70,6 @@ weight-answered g f answer c h =
       weight-settled g f.kind f.token answer (endpoint c f.ep) h,
       weight-with_endpoint g c.endpoints f.ep (endpoint c f.ep) (endpoint_after_answer f.kind f.token answer (endpoint c f.ep)) refl (not_free f.kind f.token (endpoint c f.ep) h),
     )
-
-abbrev pub after_ending : State → FlightId → Context → State
-after_ending s id d = record s { contexts = put_context d s.contexts; flights = end_flight id s.flights }
 
 carries_own : (g : ℕ) (s : State) (id : FlightId) (answer : Answer) (c : Context) (f : Flying) → context_of id.issuer s.contexts ≡ Some c → flying_at id.number c.flying ≡ Some f → carries_credit g s.contexts (Packet.Answer id answer) ≡ (is_refusal answer && gives_back g f.kind f.token (endpoint c f.ep))
 carries_own g s id answer c f at flies = rw (at, flies) refl

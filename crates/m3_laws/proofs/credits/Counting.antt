@@ -5,9 +5,10 @@ use Rattle.m3_base.specs.declared.packet.Fresh.{Fresh}
 use Rattle.m3_base.specs.Lists.Counting.{total, one, how_many}
 use Rattle.m3_base.specs.Lists.Keyed.{find}
 use Rattle.m3_base.specs.Ideal.Context.{Endpoint, Free, Sends, Receives, Reaches, Context, endpoint}
-use Rattle.m3_base.specs.Ideal.Landing.{has_closing}
+use Rattle.m3_base.specs.Ideal.Landing.{has_closing, is_record_of}
 use Rattle.m3_base.specs.Ideal.Step.{number_of}
-use Rattle.m3_laws.specs.GrantInvariant.{is_record_of, form_of, fixed_part}
+use Rattle.m3_laws.specs.GrantInvariant.{form_of, fixed_part}
+use Rattle.std.proofs.lemmas.List.{length-map, length-set}
 
 pub how_many-set : {X : Type 0} (p : X → Bool) (xs : List X) (i : ℕ) (y d : X) → i < length xs → how_many p (set xs i y) + one (p (get_or xs i d)) ≡ how_many p xs + one (p y)
 how_many-set p [] i y d h = absurd (omega arith)
@@ -95,17 +96,8 @@ same_at g c d s = many-map (is_record_of g) (at_face g) fixed_part (is_at-face g
 pub same_closing : (g : ℕ) (c d : Context) → SameFixedParts c d → how_many (has_closing g) d.endpoints ≡ how_many (has_closing g) c.endpoints
 same_closing g c d s = many-map (has_closing g) (closing_face g) fixed_part (closing-face g) d.endpoints ∙ ap (how_many (closing_face g)) s.faces ∙ sym (many-map (has_closing g) (closing_face g) fixed_part (closing-face g) c.endpoints)
 
-length-map' : {X Y : Type 0} (f : X → Y) (xs : List X) → length (map f xs) ≡ length xs
-length-map' f [] = refl
-length-map' f (x ∷ xs) = omega (arith, length-map' f xs)
-
 pub same_cells : (c d : Context) → SameFixedParts c d → length d.endpoints ≡ length c.endpoints
-same_cells c d s = sym (length-map' fixed_part d.endpoints) ∙ ap length s.faces ∙ length-map' fixed_part c.endpoints
-
-pub length-set' : {X : Type 0} (xs : List X) (i : ℕ) (x : X) → length (set xs i x) ≡ length xs
-length-set' [] i x = refl
-length-set' (y ∷ xs) zero x = refl
-length-set' (y ∷ xs) (suc i) x = omega (arith, length-set' xs i x)
+same_cells c d s = sym (length-map d.endpoints fixed_part) ∙ ap length s.faces ∙ length-map c.endpoints fixed_part
 
 -- ---- look-ups of an endpoint after a change of one
 

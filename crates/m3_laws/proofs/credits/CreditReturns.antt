@@ -9,17 +9,17 @@ use Rattle.m3_base.specs.declared.packet.Fresh.{Fresh}
 use Rattle.m3_base.specs.Lists.Counting.{total, one, how_many}
 use Rattle.m3_base.specs.Ideal.Flights.{flight, same_name, name_of}
 use Rattle.m3_base.specs.Ideal.Context.{Endpoint, Free, Sends, Receives, Reaches, Context, endpoint}
-use Rattle.m3_base.specs.Ideal.Landing.{sends_by, has_send}
-use Rattle.m3_base.specs.Ideal.State.{Grant, State, context_of, grant_in, holder, same_act}
-use Rattle.m3_base.specs.Ideal.Step.{number_of}
+use Rattle.m3_base.specs.Ideal.Landing.{sends_by, has_send, is_record_of}
+use Rattle.m3_base.specs.Ideal.State.{Grant, State, context_of, grant_in, holder, same_act, is_open, DistinctActs}
+use Rattle.m3_base.specs.Ideal.Step.{number_of, is_install_of}
 use Rattle.m3_base.specs.Ideal.Credits.{carries_credit, queued_credits, credits}
 use Rattle.m3_base.specs.Ideal.FlightNames.{Apart, Distinct}
 use Rattle.m3_base.proofs.FlightNames.{same_name-itself, same_name-is}
-use Rattle.m3_laws.proofs.invariant.step.LookUps.{same_act-is, same_act-itself}
 use Rattle.m3_laws.proofs.credits.Land.{credits_are}
-use Rattle.m3_laws.specs.GrantInvariant.{is_record_of, is_open_grant, form_of, HeldGrant, IsHeldAt, FormLawful, InstallLawful, ActsDistinct, RecordsMatchGrants}
-use Rattle.m3_laws.specs.Laws.{is_install_of, is_open, limit_of}
+use Rattle.m3_laws.specs.GrantInvariant.{is_open_grant, form_of, HeldGrant, IsHeldAt, FormLawful, InstallLawful, RecordsMatchGrants}
+use Rattle.m3_laws.specs.Laws.{limit_of}
 use Rattle.m3_laws.proofs.credits.Counting.{one_found}
+use Rattle.m3_base.proofs.Activities.{same_act-is, same_act-itself}
 
 -- ---- what holds of each flight that is found holds of all
 
@@ -55,7 +55,7 @@ all_wait g n (p ∷ fs) h l = by_head (is_install_of g p) refl (all_wait g n fs 
 
 -- ---- the context that has the record
 
-pub found_lone : (F : Context → ℕ) (to : ℕ) (cs : List Context) → ActsDistinct cs → ((a : ℕ) (c : Context) → context_of a cs ≡ Some c → 1 ≤ F c → a ≡ to) → 1 ≤ total F cs → (x : Context) × ((context_of to cs ≡ Some x) × (1 ≤ F x))
+pub found_lone : (F : Context → ℕ) (to : ℕ) (cs : List Context) → DistinctActs cs → ((a : ℕ) (c : Context) → context_of a cs ≡ Some c → 1 ≤ F c → a ≡ to) → 1 ≤ total F cs → (x : Context) × ((context_of to cs ≡ Some x) × (1 ≤ F x))
 found_lone F to [] d h l = absurd (omega (arith, l))
 found_lone F to (y ∷ ys) d h l = by_head (F y) refl (found_lone F to ys d.1)
   where
@@ -96,7 +96,7 @@ form_at g (Reaches r) h = (_, (refl, (grind (arith, nat_tests, h), inr refl)))
 some_form : (e : Endpoint) (gs : List Grant) (a ep : ℕ) (f : Fresh) → form_of e ≡ Some f → FormLawful gs a ep (form_of e) → IsHeldAt (grant_in gs (number_of f)) a ep f
 some_form e gs a ep f q h = subst (FormLawful gs a ep) q h
 
-module _ (s : State) (placed : RecordsMatchGrants s) (acts : ActsDistinct s.contexts) (g to : ℕ) (y : Grant) (x : Context) (at : context_of to s.contexts ≡ Some x) (here : grant_in s.grants g ≡ Some y) (holds : holder y.line ≡ to) (open' : is_open y.standing ≡ true) (limit : credits g s ≡ limit_of y.fresh) (id : FlightId) (p : Packet) (find : flight id s.flights ≡ Some p) (carried : carries_credit g s.contexts p ≡ true) where
+module _ (s : State) (placed : RecordsMatchGrants s) (acts : DistinctActs s.contexts) (g to : ℕ) (y : Grant) (x : Context) (at : context_of to s.contexts ≡ Some x) (here : grant_in s.grants g ≡ Some y) (holds : holder y.line ≡ to) (open' : is_open y.standing ≡ true) (limit : credits g s ≡ limit_of y.fresh) (id : FlightId) (p : Packet) (find : flight id s.flights ≡ Some p) (carried : carries_credit g s.contexts p ≡ true) where
   flies : 1 ≤ how_many (carries_credit g s.contexts) s.flights
   flies = one_found name_of same_name (carries_credit g s.contexts) id p s.flights find carried
 

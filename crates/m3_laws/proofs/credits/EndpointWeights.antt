@@ -1,5 +1,5 @@
 -- What each change of an endpoint does to the credits that it holds or owes.
-use Rattle.std.proofs.Common.{◌≡◌, ℕ, zero, suc, ◌+◌, ◌<◌, Bool, false, List, [], ◌∷◌, ◌++◌, length, get_or, set, Some, None, arith}
+use Rattle.std.proofs.Common.{◌≡◌, ℕ, zero, suc, ◌+◌, ◌<◌, Bool, false, List, [], ◌∷◌, ◌++◌, Some, None, arith}
 use Rattle.std.specs.List.{list_any}
 use Rattle.std.specs.Prelude.{Option, ◌==◌, not, ◌&&◌}
 use Rattle.std.proofs.lemmas.Bool.Decides.{nat_tests}
@@ -10,15 +10,7 @@ use Rattle.m3_base.specs.Ideal.ReceiveRecord.{with_unread, with_fetched, fetched
 use Rattle.m3_base.specs.Ideal.Issue.{less_one}
 use Rattle.m3_base.specs.Ideal.Landing.{one_more, sends_by, endpoints_with_credit}
 use Rattle.m3_base.specs.Ideal.Credits.{is_sent_by, is_owed, queued_at, held_at}
-
-pub total-set : {X : Type 0} (f : X → ℕ) (xs : List X) (i : ℕ) (y d : X) → i < length xs → total f (set xs i y) + f (get_or xs i d) ≡ total f xs + f y
-total-set f [] i y d h = absurd (omega arith)
-total-set f (x ∷ xs) zero y d h = omega arith
-total-set f (x ∷ xs) (suc i) y d h = omega (arith, total-set f xs i y d (omega arith))
-
-pub how_many-append : {X : Type 0} (p : X → Bool) (xs ys : List X) → how_many p (xs ++ ys) ≡ how_many p xs + how_many p ys
-how_many-append p [] ys = omega arith
-how_many-append p (x ∷ xs) ys = omega (arith, how_many-append p xs ys)
+use Rattle.m3_base.proofs.Counting.{how_many-append}
 
 -- the credits of g that an endpoint holds and owes
 abbrev pub weight : ℕ → Endpoint → ℕ

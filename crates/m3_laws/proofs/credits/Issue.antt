@@ -8,7 +8,9 @@ use Rattle.m3_base.specs.Lists.Counting.{total, one}
 use Rattle.m3_base.specs.Ideal.Context.{Endpoint, Free, Sends, Receives, Reaches, Context, endpoint}
 use Rattle.m3_base.specs.Ideal.ReceiveRecord.{without_fetched, with_mark_at}
 use Rattle.m3_base.specs.Ideal.Issue.{less_one, send, reply, fetch, acknowledge, read, write, Issued, issue, is_busy}
-use Rattle.m3_laws.proofs.credits.EndpointWeights.{weight, context_weight, total-set, weight-less_one, weight-with_fetched, owed-without_token, owed-with_mark}
+use Rattle.m3_laws.proofs.credits.EndpointWeights.{weight, context_weight, weight-less_one, weight-with_fetched, owed-without_token, owed-with_mark}
+use Rattle.m3_base.proofs.Counting.{total-set}
+use Rattle.std.proofs.lemmas.Option.{same_Some}
 
 -- a credit of g in a packet that is no answer
 abbrev pub bears : ℕ → Packet → Bool
@@ -72,9 +74,6 @@ write_keeps g c ep off payload (Sends r) h = grind arith
 write_keeps g c ep off payload (Receives r) h = grind arith
 write_keeps g c ep off payload (Reaches r) h = grind arith
 
-pub some_is : {X : Type 0} (x y : X) → Some x ≡ Some y → x ≡ y
-some_is x y e = cc
-
 pub came_through : {X : Type 0} (b : Bool) (x y : X) → (if b then None else Some x) ≡ Some y → x ≡ y
 came_through true x y e = absurd (cc)
 came_through false x y e = cc
@@ -82,7 +81,7 @@ came_through false x y e = cc
 pub issue_keeps : (g : ℕ) (c : Context) (k : Command) (i : Issued) → issue c k ≡ Some i → Keeps g c i
 issue_keeps g c (Command.Send ep payload to) i e = subst (Keeps g c) (came_through (is_busy c) _ i e) (send_keeps g c ep payload to (endpoint c ep) refl)
 issue_keeps g c (Command.Reply ep token payload) i e = subst (Keeps g c) (came_through (is_busy c) _ i e) (reply_keeps g c ep token payload (endpoint c ep) refl)
-issue_keeps g c (Command.Fetch ep) i e = subst (Keeps g c) (some_is _ i e) (fetch_keeps g c ep (endpoint c ep) refl)
-issue_keeps g c (Command.Acknowledge ep token) i e = subst (Keeps g c) (some_is _ i e) (acknowledge_keeps g c ep token (endpoint c ep) refl)
+issue_keeps g c (Command.Fetch ep) i e = subst (Keeps g c) (same_Some _ i e) (fetch_keeps g c ep (endpoint c ep) refl)
+issue_keeps g c (Command.Acknowledge ep token) i e = subst (Keeps g c) (same_Some _ i e) (acknowledge_keeps g c ep token (endpoint c ep) refl)
 issue_keeps g c (Command.Read ep off len) i e = subst (Keeps g c) (came_through (is_busy c) _ i e) (read_keeps g c ep off len (endpoint c ep) refl)
 issue_keeps g c (Command.Write ep off payload) i e = subst (Keeps g c) (came_through (is_busy c) _ i e) (write_keeps g c ep off payload (endpoint c ep) refl)

@@ -15,7 +15,7 @@ use Rattle.m3_base.specs.Ideal.Credits.{queued_at, held_at, gives_back, gives_ba
 use Rattle.m3_base.proofs.KeyedList.{total-replaced, how_many-replaced, find-replaced_other, find-replaced_same}
 use Rattle.m3_laws.proofs.credits.EndpointWeights.{weight, context_weight, weight-with_unread, weight-credited}
 use Rattle.m3_laws.proofs.credits.Issue.{weight-with_endpoint}
-use Rattle.m3_laws.proofs.invariant.step.LookUps.{same_act-is, act_joins, same_act-itself}
+use Rattle.m3_base.proofs.Activities.{same_act-is, same_act-itself, same_act-joins}
 
 -- ---- the weight of a context after a landing
 
@@ -105,7 +105,7 @@ back_by_alike c d a f each = record { act = a; back = λ g n. by_flying g (flyin
 
 -- the same is given back after a context was replaced by one like it
 pub back-put : (g n a : ℕ) (cs : List Context) (c d : Context) → SameBack c d → context_of d.act cs ≡ Some c → (b : Bool) → same_act a d.act ≡ b → gives_back_in g n (context_of a (put_context d cs)) ≡ gives_back_in g n (context_of a cs)
-back-put g n a cs c d s at false e = rw (find-replaced_other act_of same_act act_before a d cs act_joins e) refl
+back-put g n a cs c d s at false e = rw (find-replaced_other act_of same_act act_before a d cs same_act-joins e) refl
 back-put g n a cs c d s at true e =
     rw (same_act-is a d.act e, find-replaced_same act_of same_act act_before d c cs (same_act-itself d.act) at, at) (s.back g n)
 

@@ -13,10 +13,11 @@ use Rattle.m3_base.specs.Ideal.State.{State, Grant, holder, holder_ep, context_o
 use Rattle.m3_base.specs.Ideal.GrantRules.{with_grant_made, close_sent, kernel_id}
 use Rattle.m3_base.specs.Ideal.Credits.{carries_credit, queued_credits, credits}
 use Rattle.m3_base.proofs.KeyedList.{total-replaced, total-without, total-inserted, how_many-inserted, how_many-without}
-use Rattle.m3_laws.proofs.credits.EndpointWeights.{weight, context_weight, total-set}
+use Rattle.m3_laws.proofs.credits.EndpointWeights.{weight, context_weight}
 use Rattle.m3_laws.proofs.credits.Issue.{weight-with_endpoint}
 use Rattle.m3_laws.proofs.credits.Land.{credits_are, how_many-agree, carries-put, SameBack}
-use Rattle.m3_laws.proofs.credits.Answer.{after_ending}
+use Rattle.m3_base.proofs.Counting.{total-set}
+use Rattle.m3_base.specs.Ideal.Step.{after_ending}
 
 -- Make: the new grant's limit waits in its Install
 pub make_credits : (g : ℕ) (s : State) (line : GrantLine) (f : Fresh) → credits g (with_grant_made s line f) ≡ credits g s + queued_credits g (Packet.Install (kernel_id s) (holder line) (holder_ep line) f)

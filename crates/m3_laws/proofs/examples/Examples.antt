@@ -10,7 +10,7 @@ use Rattle.m3_base.specs.declared.command.Command.{Command}
 use Rattle.m3_base.specs.declared.step.Step.{Step}
 use Rattle.m3_base.specs.declared.event.Event.{Event}
 use Rattle.m3_base.specs.declared.event.Said.{Said}
-use Rattle.m3_base.specs.Ideal.Flights.{flight}
+use Rattle.m3_base.specs.Ideal.Flights.{flight, flight_name as id}
 use Rattle.m3_base.specs.Lists.Counting.{how_many}
 use Rattle.m3_base.specs.Ideal.Context.{Context, endpoint}
 use Rattle.m3_base.specs.Ideal.State.{State, Done, Grant, grant_in, context_of}
@@ -20,10 +20,11 @@ use Rattle.m3_base.specs.Ideal.Credits.{credits, granted_by}
 use Rattle.m3_base.specs.Journal.Entry.{state_after_entries}
 use Rattle.m3_base.specs.Ideal.MessageTraces.{collect, final, issued_at, landed_at, refused_at, fetched_at, names_of}
 use Rattle.m3_base.specs.Ideal.Opening.{opening}
-use Rattle.m3_base.specs.Examples.Scripts.{id, delivery_setup, full_buffer_setup, memory_access_setup, children_first_setup, children_first, replies_setup}
+use Rattle.m3_base.specs.Examples.Scripts.{delivery_setup, full_buffer_setup, memory_access_setup, children_first_setup, children_first, replies_setup}
 use Rattle.m3_base.specs.Setup.Obligations.{LinesAreOk}
-use Rattle.m3_laws.specs.CommandFlights.{replies_to, has_mark, fetched_in}
+use Rattle.m3_laws.specs.CommandFlights.{replies_to, fetched_in}
 use Rattle.m3_laws.specs.JournalLaws.{EndsGrant}
+use Rattle.m3_base.specs.Ideal.ReceiveRecord.{has_mark}
 
 -- a setup of the worked examples obeys
 pub delivery_obeys : LinesAreOk (opening 16 []) delivery_setup

@@ -10,29 +10,28 @@ use Rattle.m3_base.specs.declared.order.GrantLine.{GrantLine}
 use Rattle.m3_base.specs.Ideal.Flights.{flight}
 use Rattle.m3_base.specs.Ideal.Context.{Flying, Free, Context, endpoint, with_endpoint}
 use Rattle.m3_base.specs.Ideal.Landing.{flying_at, closed_at, has_live, has_closing, flies_at}
-use Rattle.m3_base.specs.Ideal.State.{Standing, Live, Closing, Closed, Done, Grant, State, context_of, put_context, grant_in, holder, holder_ep, parent_of, parent_in, undone, is_done, is_live}
-use Rattle.m3_base.specs.Ideal.GrantRules.{form, make_refusal, may_close, close_sent, change_grant, kernel_id, revoke_refusal, is_closed_grant, new_grant, with_root_closing, closing_where, marks_under, or_false, to_closing, after_revoke}
-use Rattle.m3_laws.proofs.credits.Answer.{after_ending}
-use Rattle.m3_laws.proofs.invariant.step.LookUps.{found_own}
+use Rattle.m3_base.specs.Ideal.State.{Standing, Live, Closing, Closed, Done, Grant, State, context_of, put_context, grant_in, holder, holder_ep, parent_of, parent_in, undone, is_done, is_live, is_open}
+use Rattle.m3_base.specs.Ideal.GrantRules.{form, make_refusal, may_close, close_sent, change_grant, kernel_id, revoke_refusal, is_closed_grant, new_grant, with_root_closing, closing_where, marks_under, or_false, to_closing, after_revoke, to_root, to_sent, to_done}
 use Rattle.m3_laws.specs.GrantInvariant.{GrantInvariant, is_open_grant}
 use Rattle.m3_laws.proofs.invariant.records.ClosingRecords.{to_closed, was_open}
-use Rattle.m3_laws.proofs.invariant.records.OrdersKeepRecords.{to_done, to_root, to_sent}
 use Rattle.m3_base.specs.declared.command.Command.{Command}
 use Rattle.m3_base.specs.declared.step.Step.{Step}
 use Rattle.m3_base.specs.declared.event.No.{No}
 use Rattle.m3_base.specs.Ideal.Issue.{Issued, issue}
-use Rattle.m3_base.specs.Ideal.Step.{Starts_closing, Closes_endpoint, Sends_close, Frees, Finishes, IdealResult, ideal_step, issue_in, issued_in, await_in, message_in, credit_in, install_in, close_in, land_in, settle_in, answer_in, answered_in, make_in, revoke_in, send_close_in, closed_in, free_in, done_in, step_to, make_for}
+use Rattle.m3_base.specs.Ideal.Step.{Starts_closing, Closes_endpoint, Sends_close, Frees, Finishes, IdealResult, ideal_step, issue_in, issued_in, await_in, message_in, credit_in, install_in, close_in, land_in, settle_in, answer_in, answered_in, make_in, revoke_in, send_close_in, closed_in, free_in, done_in, step_to, make_for, after_ending}
 use Rattle.m3_base.specs.Ideal.MessageTraces.{state_after_steps, final}
-use Rattle.m3_laws.specs.Laws.{AllFit, parent_at, IsPath, GoneForever, is_open}
+use Rattle.m3_laws.specs.Laws.{AllFit, parent_at, IsPath, GoneForever}
 use Rattle.std.specs.Option.{option_map}
 use Rattle.m3_base.specs.Ideal.Opening.{opening}
-use Rattle.m3_laws.proofs.grants.GrantList.{Changes, at_one, grant_added, grant_past}
+use Rattle.m3_laws.proofs.grants.GrantList.{Changes, at_one, grant_added}
 use Rattle.m3_laws.proofs.grants.OrdersKeepGrants.{closing_changes, one_changes}
 use Rattle.m3_laws.proofs.invariant.step.OpeningHolds.{ever_lawful}
 use Rattle.m3_laws.proofs.grants.RevokedIsGone.{gone_at}
 use Rattle.std.proofs.lemmas.Bool.Decides.{nat_tests}
 use Rattle.m3_laws.proofs.invariant.step.StepKeeps.{AllLawful, step_lawful}
 use Rattle.m3_laws.proofs.invariant.step.Invariant.{invariant_ever, invariant_final}
+use Rattle.m3_base.proofs.Activities.{found_own}
+use Rattle.m3_base.proofs.GrantsByNumber.{grant_past}
 
 -- a grant stays, with its line, and a done one stays done
 pub record DoneLasts (gs ks : List Grant) : Type 0 where

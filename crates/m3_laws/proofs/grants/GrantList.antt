@@ -4,10 +4,9 @@ use Rattle.std.specs.Prelude.{Option, if◌then◌else◌, ◌==◌, slice_get}
 use Rattle.std.specs.Option.{option_map}
 use Rattle.std.proofs.lemmas.Bool.Decides.{nat_tests}
 use Rattle.m3_base.specs.declared.order.GrantLine.{GrantLine}
-use Rattle.m3_base.specs.Ideal.State.{Grant, parent_of, grant_in, parent_in, is_done, is_live}
+use Rattle.m3_base.specs.Ideal.State.{Grant, parent_of, grant_in, parent_in, is_done, is_live, is_open}
 use Rattle.m3_base.specs.Ideal.GrantRules.{form, to_closing, closing_where, or_false, change_grant, set_some}
 use Rattle.m3_laws.specs.GrantInvariant.{KeepsOpen, IsAfter, GrantLawful, GrantsLawful}
-use Rattle.m3_laws.specs.Laws.{is_open}
 use Rattle.m3_base.proofs.ListLookups.{get_pushed}
 
 -- ---- look-ups by number
@@ -51,15 +50,6 @@ grant_added gs x h = grind (arith, nat_tests, get_pushed gs x (h - 1))
 
 pub grant_closing : (bs : List Bool) (gs : List Grant) (h : ℕ) → grant_in (closing_where bs gs) h ≡ option_map (to_closing (or_false (slice_get bs (h - 1)))) (grant_in gs h)
 grant_closing bs gs h = grind (arith, nat_tests, got-closing bs gs (h - 1))
-
-pub grant_past : (gs : List Grant) (h : ℕ) (x : Grant) → grant_in gs h ≡ Some x → h ≤ length gs
-grant_past gs zero x e = absurd (cc)
-grant_past gs (suc h) x e = within gs h (grind (arith, nat_tests, e))
-  where
-    within : (xs : List Grant) (k : ℕ) → slice_get xs k ≡ Some x → suc k ≤ length xs
-    within [] k e = absurd (cc)
-    within (y ∷ xs) zero e = omega arith
-    within (y ∷ xs) (suc k) e = omega (arith, within xs k e)
 
 -- ---- grants that change, each in its own way
 

@@ -9,26 +9,23 @@ use Rattle.m3_base.specs.declared.packet.Perm.{Perm}
 use Rattle.m3_base.specs.Ideal.Flights.{flight}
 use Rattle.m3_base.specs.Ideal.Context.{Flying, Context, endpoint}
 use Rattle.m3_base.specs.Ideal.Landing.{grant_of, flying_at, message_id}
-use Rattle.m3_base.specs.Ideal.State.{Standing, Live, Closing, Closed, Done, State, context_of, grant_in, is_live, is_number}
+use Rattle.m3_base.specs.Ideal.State.{Standing, Live, Closing, Closed, Done, State, context_of, grant_in, is_live, is_number, is_open}
 use Rattle.m3_base.specs.Ideal.GrantRules.{is_closing_grant}
 use Rattle.m3_base.specs.Ideal.Credits.{covers, granted_by, Granted}
 use Rattle.m3_base.specs.Ideal.Opening.{opening}
 use Rattle.m3_base.specs.Ideal.MessageTraces.{final}
-use Rattle.m3_laws.specs.Laws.{is_open, is_sent_through, AccessLaw}
+use Rattle.m3_laws.specs.Laws.{is_sent_through, AccessLaw}
 use Rattle.m3_laws.proofs.invariant.step.Invariant.{invariant_ever}
 use Rattle.m3_laws.specs.GrantInvariant.{is_open_grant}
 use Rattle.m3_laws.specs.WellFormed.{CommandUse, use_by, use_in, use_of, uses_send, uses_reply, uses_read, uses_write, is_covered}
 use Rattle.m3_laws.specs.Invariant.{Invariant}
-use Rattle.m3_laws.specs.GrantHolder.{HeldThere}
 use Rattle.m3_laws.proofs.invariant.step.Consequences.{held_there}
+use Rattle.m3_base.specs.Ideal.GrantHolder.{HeldThere}
+use Rattle.m3_base.proofs.Options.{some_if_number}
 
 abbrev pub has_grant : ℕ → Option CommandUse → Bool
 has_grant g None = false
 has_grant g (Some u) = is_number g u.grant
-
-is_some_grant : (g : ℕ) (o : Option ℕ) → is_number g o ≡ true → o ≡ Some g
-is_some_grant g None h = absurd (cc)
-is_some_grant g (Some x) h = let q : x ≡ g = grind (arith, nat_tests, h) in ap Some q
 
 sends_grant : (g : ℕ) (o : Option CommandUse) → uses_send g o ≡ true → has_grant g o ≡ true
 sends_grant g None h = absurd (cc)
@@ -49,7 +46,7 @@ module _ (s : State) (law : Invariant s) where
     where
       by_flying : (c : Context) → context_of n.issuer s.contexts ≡ Some c → (o : Option Flying) → has_grant g (use_by c o) ≡ true → (ep : ℕ) × HeldThere s.grants g n.issuer ep
       by_flying c at None h = absurd (cc)
-      by_flying c at (Some f) h = (f.ep, held_there s law n.issuer f.ep g c at (is_some_grant g (grant_of (endpoint c f.ep)) h))
+      by_flying c at (Some f) h = (f.ep, held_there s law n.issuer f.ep g c at (some_if_number g (grant_of (endpoint c f.ep)) h))
 
       by_context : (o : Option Context) → context_of n.issuer s.contexts ≡ o → has_grant g (use_in n.number o) ≡ true → (ep : ℕ) × HeldThere s.grants g n.issuer ep
       by_context None e h = absurd (cc)

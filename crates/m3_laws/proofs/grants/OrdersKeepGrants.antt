@@ -6,11 +6,11 @@ use Rattle.std.specs.List.{list_any}
 use Rattle.std.proofs.lemmas.Bool.Decides.{nat_tests}
 use Rattle.m3_base.specs.declared.packet.Fresh.{Fresh}
 use Rattle.m3_base.specs.declared.order.GrantLine.{GrantLine}
-use Rattle.m3_base.specs.Ideal.State.{Standing, Live, Closing, Closed, Done, Grant, parent_of, grant_in, parent_in, is_done, is_live, undone}
+use Rattle.m3_base.specs.Ideal.State.{Standing, Live, Closing, Closed, Done, Grant, parent_of, grant_in, parent_in, is_done, is_live, undone, is_open}
 use Rattle.m3_base.specs.Ideal.GrantRules.{form, new_grant, to_closing, closing_where, or_false, marks_under, change_grant, with_root_closing, after_revoke, may_close, is_closing_grant, is_open_child, is_above_closing}
 use Rattle.m3_laws.specs.GrantInvariant.{is_ready, KeepsOpen, IsAfter, GrantLawful, GrantsLawful}
-use Rattle.m3_laws.specs.Laws.{is_open}
-use Rattle.m3_laws.proofs.grants.GrantList.{Changes, StillLawful, tree_kept, at_one, grant_changed, grant_added, grant_closing, grant_past}
+use Rattle.m3_laws.proofs.grants.GrantList.{Changes, StillLawful, tree_kept, at_one, grant_changed, grant_added, grant_closing}
+use Rattle.m3_base.proofs.GrantsByNumber.{grant_past}
 
 -- ---- changes that leave each ready grant ready
 

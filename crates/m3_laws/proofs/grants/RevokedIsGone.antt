@@ -9,10 +9,10 @@ use Rattle.m3_base.specs.declared.command.Refusal.{Refusal}
 use Rattle.m3_base.specs.Lists.Counting.{one}
 use Rattle.m3_base.specs.Ideal.Flights.{flight, same_name, name_of}
 use Rattle.m3_base.specs.Ideal.Context.{Endpoint, Free, Sends, Receives, Reaches, Context, endpoint}
-use Rattle.m3_base.specs.Ideal.Landing.{land_refusal, sends_by}
-use Rattle.m3_base.specs.Ideal.State.{Standing, Live, Closing, Closed, Done, Grant, State, context_of, grant_in, parent_of, is_done}
-use Rattle.m3_laws.specs.GrantInvariant.{is_ready, is_open_grant, is_close_sent, KeepsOpen, GrantInvariant, is_record_of}
-use Rattle.m3_laws.specs.Laws.{is_install_of, is_close_of, is_open, parent_at, IsPath, IsGone, GoneAt, GoneLaw, is_sent_through}
+use Rattle.m3_base.specs.Ideal.Landing.{land_refusal, sends_by, is_record_of}
+use Rattle.m3_base.specs.Ideal.State.{Standing, Live, Closing, Closed, Done, Grant, State, context_of, grant_in, parent_of, is_done, is_open}
+use Rattle.m3_laws.specs.GrantInvariant.{is_ready, is_open_grant, is_close_sent, KeepsOpen, GrantInvariant}
+use Rattle.m3_laws.specs.Laws.{is_close_of, parent_at, IsPath, IsGone, GoneAt, GoneLaw, is_sent_through}
 use Rattle.m3_base.specs.Ideal.Opening.{opening}
 use Rattle.m3_base.specs.Ideal.MessageTraces.{final}
 use Rattle.m3_laws.proofs.credits.Counting.{one_found}
@@ -20,6 +20,7 @@ use Rattle.m3_laws.proofs.invariant.records.RecordsOfGrants.{record_open}
 use Rattle.m3_laws.specs.Invariant.{Invariant}
 use Rattle.m3_laws.proofs.invariant.step.Invariant.{invariant_ever}
 use Rattle.m3_laws.proofs.grants.OpenWhileUsed.{through_open}
+use Rattle.m3_base.specs.Ideal.Step.{is_install_of}
 
 done_closed : (t : Standing) → is_done t ≡ true → is_open t ≡ false
 done_closed Done e = refl

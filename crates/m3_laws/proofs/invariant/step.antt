@@ -10,3 +10,4 @@ pub mod StepKeeps
 pub mod OpeningHolds
 pub mod Invariant
 pub mod Consequences
+pub mod NoFlightAtOpening

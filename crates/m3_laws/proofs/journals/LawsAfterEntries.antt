@@ -11,7 +11,7 @@ use Rattle.m3_base.specs.declared.step.Step.{Step}
 use Rattle.m3_base.specs.Ideal.Context.{endpoint}
 use Rattle.m3_base.specs.Ideal.Issue.{IssueOutcome}
 use Rattle.m3_base.specs.Ideal.State.{Grant, State, grant_in, is_done}
-use Rattle.m3_base.specs.Ideal.GrantRules.{change_grant, is_closed_grant}
+use Rattle.m3_base.specs.Ideal.GrantRules.{change_grant, is_closed_grant, to_done}
 use Rattle.m3_base.specs.Ideal.Step.{At_issue, Finishes, IdealResult, ideal_step, ideal_run, on_from, done_in, step_to}
 use Rattle.m3_base.specs.Journal.Entry.{MatchesBy, EntryMatches, Shows, IsRun, steps_of, ran_to, next_state, state_after_entries, shown_told}
 use Rattle.m3_base.specs.Ideal.MessageTraces.{final}
@@ -24,7 +24,6 @@ use Rattle.m3_laws.specs.JournalLaws.{FitsEvent, event_in, JournalsFit, TellsSen
 use Rattle.m3_laws.proofs.journals.EntriesKeepInvariant.{event_fits}
 use Rattle.m3_laws.proofs.journals.EntriesAreRun.{one_run}
 use Rattle.m3_laws.proofs.grants.GrantList.{at_one, grant_changed}
-use Rattle.m3_laws.proofs.invariant.records.OrdersKeepRecords.{to_done}
 use Rattle.m3_laws.proofs.invariant.step.OpeningHolds.{ever_lawful, credit_law, record_law, children_law}
 use Rattle.m3_laws.proofs.grants.DoneStaysDone.{DoneLasts, run_last}
 use Rattle.m3_laws.proofs.grants.RevokedIsGone.{gone_law}

@@ -16,8 +16,8 @@ use Rattle.m3_base.specs.Ideal.Context.{Flying, Free, Context, endpoint, with_en
 use Rattle.m3_base.specs.Ideal.Issue.{Issued, issue}
 use Rattle.m3_base.specs.Ideal.Landing.{grant_of, with_credit, land_by, land_refusal, context_after_answer, flying_at, closed_at, has_live, has_closing, flies_at, bytes_at, written_at}
 use Rattle.m3_base.specs.Ideal.State.{Grant, State, context_of, put_context, same_act, grant_in, parent_of, parent_in, undone, holder, holder_ep}
-use Rattle.m3_base.specs.Ideal.GrantRules.{form, with_grant_made, make_refusal, kernel_id, after_revoke, with_root_closing, closing_where, marks_under, or_false, to_closing, revoke_refusal, may_close, close_sent, change_grant, is_closed_grant}
-use Rattle.m3_base.specs.Ideal.Step.{IdealResult, ideal_step, with_packet, Starts_closing, Closes_endpoint, Sends_close, Frees, Finishes, step_to, issue_in, issued_in, await_in, message_in, credit_in, install_in, close_in, land_in, settle_in, answer_in, answered_in, make_in, make_for, revoke_in, send_close_in, free_in, closed_in, done_in}
+use Rattle.m3_base.specs.Ideal.GrantRules.{form, with_grant_made, make_refusal, kernel_id, after_revoke, with_root_closing, closing_where, marks_under, or_false, to_closing, revoke_refusal, may_close, close_sent, change_grant, is_closed_grant, to_root, to_sent, to_done}
+use Rattle.m3_base.specs.Ideal.Step.{IdealResult, ideal_step, with_packet, Starts_closing, Closes_endpoint, Sends_close, Frees, Finishes, step_to, issue_in, issued_in, await_in, message_in, credit_in, install_in, close_in, land_in, settle_in, answer_in, answered_in, make_in, make_for, revoke_in, send_close_in, free_in, closed_in, done_in, after_ending}
 use Rattle.m3_base.specs.Ideal.MessageTraces.{only_of, shown_by, fetched_by, fetched_from, fetched_at, landed_at, landed_in, if_landed, verdict, collect, final, state_after_steps}
 use Rattle.m3_base.specs.Ideal.Opening.{opening, with_line, with_lines, state_with_grant, contexts_with_record}
 use Rattle.m3_base.specs.declared.setup_line.SetupLine.{SetupLine}
@@ -29,10 +29,8 @@ use Rattle.m3_laws.specs.Laws.{AllFit}
 use Rattle.m3_laws.specs.MessageOrder.{HasNext, AllHaveNext, FetchingOrder}
 use Rattle.m3_laws.specs.Invariant.{Invariant}
 use Rattle.m3_laws.proofs.credits.Land.{after_landing}
-use Rattle.m3_laws.proofs.invariant.step.LookUps.{found_after, found_own}
-use Rattle.m3_laws.proofs.credits.Answer.{after_ending}
+use Rattle.m3_laws.proofs.invariant.step.LookUps.{found_after}
 use Rattle.m3_laws.proofs.credits.Counting.{at_set}
-use Rattle.m3_laws.proofs.invariant.records.OrdersKeepRecords.{to_done, to_sent, to_root}
 use Rattle.m3_laws.proofs.invariant.records.ClosingRecords.{to_closed}
 use Rattle.m3_laws.proofs.grants.GrantList.{at_one}
 use Rattle.m3_laws.proofs.grants.OrdersKeepGrants.{closing_changes, one_changes}
@@ -40,6 +38,7 @@ use Rattle.m3_laws.proofs.invariant.step.Invariant.{invariant_opening, invariant
 use Rattle.m3_laws.proofs.order.FetchOrderStep.{sent_of, unread_of, Shown, same_set, same_credited}
 use Rattle.m3_laws.proofs.order.FetchOrderPackets.{opened_unread, issue_shown, message_shown, AllShown, nil_both, put_shown, ended_shown, install_shown, closed_same, answered_shown, served_shown}
 use Rattle.m3_laws.proofs.order.FetchOrderGrants.{grants_shown, close_shown, made_shown}
+use Rattle.m3_base.proofs.Activities.{found_own}
 
 -- ---- any step
 

@@ -20,9 +20,10 @@ use Rattle.m3_laws.specs.GrantInvariant.{QueueLawful, IsAfter}
 use Rattle.m3_laws.specs.Invariant.{Invariant}
 use Rattle.m3_laws.proofs.invariant.step.LookUps.{found_new}
 use Rattle.m3_laws.proofs.invariant.records.OrdersKeepRecords.{form_number}
-use Rattle.m3_laws.proofs.grants.GrantList.{Changes, grant_added, grant_past}
+use Rattle.m3_laws.proofs.grants.GrantList.{Changes, grant_added}
 use Rattle.m3_laws.proofs.order.FetchOrderStep.{sent_of, unread_of, IsParent, Shown, before_same, shown_stays}
 use Rattle.m3_laws.proofs.order.FetchOrderPackets.{none_of_sent}
+use Rattle.m3_base.proofs.GrantsByNumber.{grant_past}
 
 -- ---- grants
 

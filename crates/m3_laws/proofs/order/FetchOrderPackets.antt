@@ -15,26 +15,25 @@ use Rattle.m3_base.specs.Ideal.Flights.{flight, name_of, same_name, change_fligh
 use Rattle.m3_base.specs.Ideal.Context.{Kind, Sending, Replying, Flying, ReceiveRecord, Endpoint, Free, Sends, Receives, Reaches, Context, endpoint, with_endpoint, new_endpoint}
 use Rattle.m3_base.specs.Ideal.ReceiveRecord.{with_fetched, with_unread}
 use Rattle.m3_base.specs.Ideal.Issue.{Issued, issue}
-use Rattle.m3_base.specs.Ideal.Landing.{grant_of, with_message, after_message, with_credit, endpoints_with_credit, land_by, land_refusal, landed_answer, message_id, context_after_answer, endpoint_after_answer, flying_at, closed_at}
+use Rattle.m3_base.specs.Ideal.Landing.{grant_of, with_message, after_message, with_credit, endpoints_with_credit, land_by, land_refusal, landed_answer, message_id, context_after_answer, endpoint_after_answer, flying_at, closed_at, is_record_of}
 use Rattle.m3_base.specs.Ideal.State.{Grant, State, context_of, put_context, act_of, same_act, grant_in, act_before}
-use Rattle.m3_base.specs.Ideal.Step.{IdealResult, number_of, with_packet}
+use Rattle.m3_base.specs.Ideal.Step.{IdealResult, number_of, with_packet, is_install_of, after_ending}
 use Rattle.m3_base.specs.Ideal.Credits.{is_sent_by}
 use Rattle.m3_base.specs.Ideal.MessageTraces.{only_of, shown_by, if_landed}
 use Rattle.m3_base.specs.Ideal.FlightNames.{Apart}
 use Rattle.m3_base.proofs.KeyedList.{find-replaced_same}
-use Rattle.m3_laws.specs.Laws.{parent_at, is_install_of}
-use Rattle.m3_laws.specs.GrantInvariant.{QueueLawful, SentTo, AllSentTo, ChildOf, is_open_grant, is_record_of}
-use Rattle.m3_laws.specs.NoConfigInFlight.{IsData}
+use Rattle.m3_laws.specs.Laws.{parent_at}
+use Rattle.m3_laws.specs.GrantInvariant.{QueueLawful, SentTo, AllSentTo, ChildOf, is_open_grant, IsData}
 use Rattle.m3_laws.specs.Invariant.{Invariant}
 use Rattle.m3_laws.proofs.credits.Land.{after_landing}
-use Rattle.m3_laws.proofs.invariant.step.LookUps.{same_act-itself, name_found, found_after, found_ended, found_new, found_changed, found_own}
-use Rattle.m3_laws.proofs.credits.Answer.{after_ending}
+use Rattle.m3_laws.proofs.invariant.step.LookUps.{name_found, found_after, found_ended, found_new, found_changed}
 use Rattle.m3_laws.proofs.credits.Issue.{in_range}
 use Rattle.m3_laws.proofs.invariant.step.IssueEffects.{IssueEffect, NewPacket, issue_effect}
 use Rattle.m3_laws.proofs.credits.Counting.{at_set, some_at, some_found, one_found}
 use Rattle.m3_laws.proofs.invariant.records.RecordsOfGrants.{one_less}
 use Rattle.m3_laws.proofs.invariant.step.IssueKeeps.{data_new}
 use Rattle.m3_laws.proofs.order.FetchOrderStep.{sent_of, unread_of, IsParent, Shown, before_same, shown_stays, AllSame, same_itself, same_set, same_then, before_put, same_credited, Fetches, Leaves, issue_leaves, one_place, sent_of-push}
+use Rattle.m3_base.proofs.Activities.{same_act-itself, found_own}
 
 -- ---- where the parent's record is known
 

@@ -16,13 +16,15 @@ use Rattle.m3_base.specs.Ideal.Issue.{IssueOutcome, Issued, issue, send, send_re
 use Rattle.m3_base.specs.Ideal.Landing.{grant_of, endpoints_with_credit, sends_by, more_at}
 use Rattle.m3_base.specs.Ideal.State.{Grant, State, context_of, put_context, same_act, grant_in, holder, holder_ep}
 use Rattle.m3_base.specs.Ideal.Step.{number_of}
-use Rattle.m3_base.specs.Ideal.MessageTraces.{IsPrefix, only_of, shown_by}
+use Rattle.m3_base.specs.Ideal.MessageTraces.{only_of, shown_by}
 use Rattle.m3_laws.specs.Laws.{parent_at}
 use Rattle.m3_laws.specs.Invariant.{Invariant}
-use Rattle.m3_laws.proofs.credits.Issue.{some_is, came_through}
+use Rattle.m3_laws.proofs.credits.Issue.{came_through}
 use Rattle.m3_laws.proofs.invariant.step.LookUps.{found_after}
 use Rattle.m3_laws.proofs.credits.Counting.{at_set}
 use Rattle.m3_laws.proofs.invariant.step.Consequences.{held_there}
+use Rattle.m3_base.specs.Lists.Prefixes.{IsPrefix}
+use Rattle.std.proofs.lemmas.Option.{same_Some}
 
 abbrev pub sent_of : ℕ → List Message → List Message
 sent_of g [] = []
@@ -211,8 +213,8 @@ write_leaves g c ep off payload (Receives r) = leaves_as g c _ refl refl
 pub issue_leaves : (g : ℕ) (c : Context) (k : Command) (i : Issued) → issue c k ≡ Some i → Leaves g c i
 issue_leaves g c (Command.Send ep payload to) i e = subst (Leaves g c) (came_through (is_busy c) _ i e) (send_leaves g c ep payload to (endpoint c ep) refl)
 issue_leaves g c (Command.Reply ep token payload) i e = subst (Leaves g c) (came_through (is_busy c) _ i e) (reply_leaves g c ep token payload (endpoint c ep) refl)
-issue_leaves g c (Command.Fetch ep) i e = subst (Leaves g c) (some_is _ i e) (fetch_leaves g c ep (endpoint c ep) refl)
-issue_leaves g c (Command.Acknowledge ep token) i e = subst (Leaves g c) (some_is _ i e) (acknowledge_leaves g c ep token (endpoint c ep) refl)
+issue_leaves g c (Command.Fetch ep) i e = subst (Leaves g c) (same_Some _ i e) (fetch_leaves g c ep (endpoint c ep) refl)
+issue_leaves g c (Command.Acknowledge ep token) i e = subst (Leaves g c) (same_Some _ i e) (acknowledge_leaves g c ep token (endpoint c ep) refl)
 issue_leaves g c (Command.Read ep off len) i e = subst (Leaves g c) (came_through (is_busy c) _ i e) (read_leaves g c ep off len (endpoint c ep))
 issue_leaves g c (Command.Write ep off payload) i e = subst (Leaves g c) (came_through (is_busy c) _ i e) (write_leaves g c ep off payload (endpoint c ep))
 

@@ -14,12 +14,12 @@ use Rattle.m3_base.specs.Ideal.Context.{Flying, Free, Context, endpoint, with_en
 use Rattle.m3_base.specs.Ideal.Issue.{Issued, issue}
 use Rattle.m3_base.specs.Ideal.Landing.{with_message, message_id, land_refusal, land_by, landed_answer, after_message, with_credit, context_after_answer, flying_at, bytes_at, written_at, has_live, has_closing, closed_at, flies_at}
 use Rattle.m3_base.specs.Ideal.State.{State, context_of, put_context, Grant, grant_in, holder, holder_ep, parent_of, parent_in, undone}
-use Rattle.m3_base.specs.Ideal.Step.{IdealResult, ideal_step, issue_in, issued_in, await_in, message_in, credit_in, land_in, settle_in, answer_in, answered_in, Starts_closing, Closes_endpoint, Sends_close, Frees, Finishes, step_to, install_in, close_in, make_in, make_for, revoke_in, send_close_in, free_in, closed_in, done_in}
+use Rattle.m3_base.specs.Ideal.Step.{IdealResult, ideal_step, issue_in, issued_in, await_in, message_in, credit_in, land_in, settle_in, answer_in, answered_in, Starts_closing, Closes_endpoint, Sends_close, Frees, Finishes, step_to, install_in, close_in, make_in, make_for, revoke_in, send_close_in, free_in, closed_in, done_in, after_ending}
 use Rattle.m3_base.specs.Ideal.MessageTraces.{only_of, sent_in, flying_of, messages_named, names_of, issued_at, landed_at, refused_at, issued_from, issued_by, landed_in, refused_in, if_landed, if_refused, verdict, state_after_steps, final, collect}
 use Rattle.m3_base.specs.declared.order.GrantLine.{GrantLine}
 use Rattle.m3_base.specs.declared.packet.Fresh.{Fresh}
 use Rattle.m3_base.specs.declared.event.No.{No}
-use Rattle.m3_base.specs.Ideal.GrantRules.{form, new_grant, with_grant_made, make_refusal, kernel_id, after_revoke, revoke_refusal, may_close, close_sent, change_grant, is_closed_grant}
+use Rattle.m3_base.specs.Ideal.GrantRules.{form, new_grant, with_grant_made, make_refusal, kernel_id, after_revoke, revoke_refusal, may_close, close_sent, change_grant, is_closed_grant, to_sent, to_done}
 use Rattle.m3_base.specs.Ideal.Opening.{opening}
 use Rattle.m3_base.proofs.KeyedList.{find-replaced_same}
 use Rattle.m3_base.specs.Ideal.FlightNames.{Distinct, Apart}
@@ -28,15 +28,14 @@ use Rattle.m3_laws.specs.Laws.{AllFit}
 use Rattle.m3_laws.specs.MessageOrder.{HasNext, AllHaveNext, LandingOrder}
 use Rattle.m3_laws.specs.Invariant.{Invariant}
 use Rattle.m3_laws.proofs.credits.Land.{after_landing, same_back-taken}
-use Rattle.m3_laws.proofs.credits.Answer.{after_ending}
-use Rattle.m3_laws.proofs.invariant.step.LookUps.{name_found, found_ended, found_new, found_own}
-use Rattle.m3_laws.proofs.invariant.records.OrdersKeepRecords.{to_sent, to_done}
+use Rattle.m3_laws.proofs.invariant.step.LookUps.{name_found, found_ended, found_new}
 use Rattle.m3_laws.proofs.invariant.records.ClosingRecords.{to_closed}
 use Rattle.m3_laws.proofs.invariant.step.Invariant.{invariant_opening, invariant_step, invariant_ever}
-use Rattle.m3_laws.proofs.journals.NoConfigInFlight.{nothing_flies}
+use Rattle.m3_laws.proofs.invariant.step.NoFlightAtOpening.{nothing_flies}
 use Rattle.m3_laws.proofs.order.OneInFlight.{Single, single_sent, single_flying}
 use Rattle.m3_laws.proofs.order.LandingOrderStep.{Past, past_stays, issue_past, landed_past, refused_past, other_past, later_put}
 use Rattle.m3_laws.proofs.order.Sublists.{flying_of-change_other, flying_of-new_other, law_of_order}
+use Rattle.m3_base.proofs.Activities.{found_own}
 
 abbrev pub after_serving : State → List ℕ → Packet → State
 after_serving s memory q = record s { memory = memory; flights = change_flight q s.flights }

@@ -12,7 +12,7 @@ use Rattle.m3_base.specs.Ideal.Context.{Context}
 use Rattle.m3_base.specs.Ideal.Issue.{Issued, issue, next_id}
 use Rattle.m3_base.specs.Ideal.Landing.{message_id, flying_at}
 use Rattle.m3_base.specs.Ideal.State.{State, context_of, put_context, act_of, same_act, act_before}
-use Rattle.m3_base.specs.Ideal.Step.{with_packet}
+use Rattle.m3_base.specs.Ideal.Step.{with_packet, after_issue}
 use Rattle.m3_base.specs.Ideal.MessageTraces.{sent_in, new_message, flying_of, is_named, messages_named}
 use Rattle.m3_laws.proofs.order.Sublists.{flying_of-new_other, flying_of-new_only, flying_of-change, flying_of-change_only, flying_of-change_other, order-issued, order-landed, order-refused, named-append}
 use Rattle.m3_base.specs.Ideal.FlightNames.{Apart}
@@ -20,7 +20,7 @@ use Rattle.m3_base.proofs.FlightNames.{flight-new, flight-change, same_name-is, 
 use Rattle.m3_base.specs.Ideal.Credits.{gives_back_in}
 use Rattle.m3_laws.proofs.order.OneInFlight.{Single, no_message, one_message, single_flying, single_sent, sent_message, sent_flies}
 use Rattle.m3_base.proofs.KeyedList.{find-replaced_other, find-replaced_same}
-use Rattle.m3_laws.proofs.invariant.step.LookUps.{same_act-is, act_joins, same_act-itself, act_found, name_found, found_own}
+use Rattle.m3_laws.proofs.invariant.step.LookUps.{name_found}
 use Rattle.m3_laws.proofs.invariant.step.IssueEffects.{IssueEffect, NewPacket, issue_effect}
 use Rattle.m3_base.proofs.FlightOrder.{find-new}
 use Rattle.m3_laws.specs.Invariant.{Invariant}
@@ -29,6 +29,7 @@ use Rattle.m3_laws.proofs.invariant.step.IssueKeeps.{issue_lawful, record_child}
 use Rattle.m3_laws.proofs.invariant.records.QueueOwners.{Owns, issue_owns}
 use Rattle.m3_laws.proofs.invariant.wellformed.LandKeeps.{issue_proper}
 use Rattle.m3_laws.proofs.invariant.commands.StepKeeps.{issue_in_order}
+use Rattle.m3_base.proofs.Activities.{same_act-is, same_act-itself, act_found, found_own, same_act-joins, found_same}
 
 -- ---- the history of a grant
 
@@ -84,7 +85,7 @@ pub later_put : (cs : List Context) (c d : Context) (a n : ℕ) → context_of d
 later_put cs c d a n at le h x e = by_act (same_act a d.act) refl
   where
     by_act : (b : Bool) → same_act a d.act ≡ b → x.next ≤ n
-    by_act false w = h x (find-replaced_other act_of same_act act_before a d cs act_joins w ∙ e)
+    by_act false w = h x (find-replaced_other act_of same_act act_before a d cs same_act-joins w ∙ e)
     by_act true w =
         let q : a ≡ d.act = same_act-is a d.act w in
         let r : d.next ≤ n = h d (subst (λ z. context_of z (put_context d cs) ≡ Some d) (sym q) (find-replaced_same act_of same_act act_before d c cs (same_act-itself d.act) at)) in
@@ -94,9 +95,6 @@ later_put cs c d a n at le h x e = by_act (same_act a d.act) refl
 
 -- ---- issue
 
-abbrev pub after_issue : State → Issued → State
-after_issue s i = record s { contexts = put_context i.context s.contexts; flights = with_packet i.packet s.flights }
-
 module _ (g : ℕ) (s : State) (a : ℕ) (k : Command) (c : Context) (i : Issued) (sound : Invariant s) (at : context_of a s.contexts ≡ Some c) (e : issue c k ≡ Some i) where
   past_none : flying_at c.next c.flying ≡ None
   past_none = (sound.lawful.traffic.contexts a c at).fresh c.next (omega arith)
@@ -104,20 +102,14 @@ module _ (g : ℕ) (s : State) (a : ℕ) (k : Command) (c : Context) (i : Issued
   past_does : IssueEffect c i
   past_does = issue_effect c k i e past_none
 
-  past_here : context_of i.context.act s.contexts ≡ Some c
-  past_here = subst (λ z. context_of z s.contexts ≡ Some c) (act_found a c s.contexts at ∙ sym past_does.act) at
-
   after : Invariant (after_issue s i)
   after = record { lawful = issue_lawful s a k c i sound.lawful at e; proper = issue_proper s a k c i sound.lawful sound.proper at e; commands = issue_in_order s sound.lawful sound.proper sound.commands a k c i at e }
 
-  own : context_of c.act s.contexts ≡ Some c
-  own = found_own a c s.contexts at
-
   owns : Owns s.grants c i
-  owns = issue_owns s.grants c k i (λ ep r q. record_child s.grants sound.lawful.placed.grants c.act ep r (subst (λ z. FormLawful s.grants c.act ep (form_of z)) q (sound.lawful.placed.records c.act c own ep))) (sound.lawful.traffic.contexts a c at).queues e
+  owns = issue_owns s.grants c k i (λ ep r q. record_child s.grants sound.lawful.placed.grants c.act ep r (subst (λ z. FormLawful s.grants c.act ep (form_of z)) q (sound.lawful.placed.records c.act c (found_own a c s.contexts at) ep))) (sound.lawful.traffic.contexts a c at).queues e
 
   past_later : Later s (after_issue s i)
-  past_later m z = later_put s.contexts c i.context m.header.sender m.header.number past_here owns.next z
+  past_later m z = later_put s.contexts c i.context m.header.sender m.header.number (found_same s.contexts a c i.context at past_does.act) owns.next z
 
   free_name : Apart (next_id c) s.flights
   free_name = (sound.lawful.traffic.contexts a c at).apart c.next (omega arith)

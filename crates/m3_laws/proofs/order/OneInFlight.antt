@@ -14,9 +14,9 @@ use Rattle.m3_base.specs.Ideal.MessageTraces.{sent_in, flying_of}
 use Rattle.m3_base.specs.Ideal.FlightNames.{Apart, Distinct}
 use Rattle.m3_base.proofs.FlightNames.{same_name-is, same_name-itself}
 use Rattle.m3_laws.specs.Invariant.{Invariant}
-use Rattle.m3_laws.specs.GrantHolder.{HeldThere}
 use Rattle.m3_laws.proofs.invariant.step.LookUps.{name_found}
 use Rattle.m3_laws.proofs.grants.OpenWhileUsed.{message_held}
+use Rattle.m3_base.specs.Ideal.GrantHolder.{HeldThere}
 
 pub sent_message : (g : ℕ) (p : Packet) (m : Message) → sent_in g p ≡ m ∷ [] → (name_of p ≡ message_id m) × (is_sent_by g m ≡ true)
 sent_message g (Packet.Message to ep h x) m e = by_test (is_sent_by g x) refl e

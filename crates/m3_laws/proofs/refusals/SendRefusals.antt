@@ -21,14 +21,13 @@ use Rattle.m3_base.specs.Ideal.State.{put_context, Grant, State, context_of, act
 use Rattle.m3_base.specs.Ideal.Opening.{opening}
 use Rattle.m3_base.specs.Ideal.MessageTraces.{final}
 use Rattle.m3_laws.proofs.credits.Issue.{came_through}
-use Rattle.m3_base.specs.Ideal.Landing.{land_refusal, has_closing}
+use Rattle.m3_base.specs.Ideal.Landing.{land_refusal, has_closing, is_record_of}
 use Rattle.m3_base.specs.Ideal.GrantRules.{form, send_form, part_form}
-use Rattle.m3_base.specs.Ideal.Step.{At_issue, issue_in, issued_in, with_packet, number_of}
-use Rattle.m3_laws.specs.Laws.{is_install_of, SendCauses, IsSendCause, send_cause, told_of_send, SendsHaveCauses, LandCauses, land_cause, has_no_slot}
-use Rattle.m3_laws.specs.GrantInvariant.{GrantLawful, KeepsOpen, is_ready, is_open_grant, is_close_sent, is_record_of, ChildOf, IsHeldAt, FormLawful, form_of}
+use Rattle.m3_base.specs.Ideal.Step.{At_issue, issue_in, issued_in, with_packet, number_of, is_install_of}
+use Rattle.m3_laws.specs.Laws.{SendCauses, IsSendCause, send_cause, told_of_send, SendsHaveCauses, LandCauses, land_cause, has_no_slot}
+use Rattle.m3_laws.specs.GrantInvariant.{GrantLawful, KeepsOpen, is_ready, is_open_grant, is_close_sent, ChildOf, IsHeldAt, FormLawful, form_of}
 use Rattle.m3_laws.specs.WellFormed.{is_sent_by_form, is_sent_as}
 use Rattle.m3_laws.specs.Invariant.{Invariant}
-use Rattle.m3_laws.specs.GrantHolder.{HeldThere}
 use Rattle.m3_laws.proofs.credits.Counting.{some_at, some_found}
 use Rattle.m3_laws.proofs.invariant.records.RecordsOfGrants.{open_undone}
 use Rattle.m3_laws.proofs.invariant.records.OrdersKeepRecords.{form_number}
@@ -36,6 +35,7 @@ use Rattle.m3_laws.proofs.invariant.step.Consequences.{record_there}
 use Rattle.m3_laws.proofs.grants.OpenWhileUsed.{message_held}
 use Rattle.m3_laws.proofs.grants.RevokedIsGone.{refused_there}
 use Rattle.m3_laws.proofs.invariant.step.Invariant.{invariant_ever}
+use Rattle.m3_base.specs.Ideal.GrantHolder.{HeldThere}
 
 -- ---- at issue
 

@@ -23,10 +23,10 @@ use Rattle.m3_laws.specs.WellFormed.{is_covered}
 use Rattle.m3_laws.specs.Invariant.{Invariant}
 use Rattle.m3_laws.proofs.invariant.step.Invariant.{invariant_opening, invariant_after}
 use Rattle.m3_laws.proofs.invariant.step.IssueEffects.{NewPacket, issue_effect}
-use Rattle.m3_laws.proofs.invariant.step.LookUps.{act_found}
 use Rattle.m3_laws.proofs.grants.OpenWhileUsed.{write_held}
 use Rattle.m3_pipe_laws.specs.Pipe.{Disjoint, WritesOutside, IssuesOutside, CommandOutside, StepOutside, AllOutside}
 use Rattle.m3_pipe_laws.specs.Exclusion.{Clear, ClearAt, AllClear, ClearStatesKeepOut}
+use Rattle.m3_base.proofs.Activities.{act_found}
 
 -- bytes of a grant that is clear
 covered_clear : (start len g place n : ℕ) (f : Fresh) → covers g place n Perm.W f ≡ true → Clear start len f → Disjoint start len place n

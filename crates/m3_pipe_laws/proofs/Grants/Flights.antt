@@ -17,8 +17,8 @@ use Rattle.m3_base.specs.Ideal.Issue.{IssueOutcome, Issued, issue, next_id, with
 use Rattle.m3_base.specs.Ideal.ReceiveRecord.{fetched_at, unmarked_message}
 use Rattle.m3_base.specs.Ideal.Landing.{land_by, land_refusal, message_id, landed_answer, grant_of, flying_at, has_live, has_closing, flies_at, closed_at, bytes_at}
 use Rattle.m3_base.specs.Ideal.State.{State, Grant, context_of, put_context, grant_in, holder, holder_ep, parent_of, parent_in, undone}
-use Rattle.m3_base.specs.Ideal.GrantRules.{form, make_refusal, kernel_id, may_close, close_sent, change_grant, is_closed_grant, revoke_refusal}
-use Rattle.m3_base.specs.Ideal.Step.{IdealResult, ideal_step, step_to, with_packet, issue_in, issued_in, await_in, land_in, message_in, credit_in, install_in, close_in, answered_in, answer_in, settle_in, make_in, make_for, revoke_in, send_close_in, closed_in, free_in, done_in, Starts_closing, Closes_endpoint, Sends_close, Frees, Finishes}
+use Rattle.m3_base.specs.Ideal.GrantRules.{form, make_refusal, kernel_id, may_close, close_sent, change_grant, is_closed_grant, revoke_refusal, to_done}
+use Rattle.m3_base.specs.Ideal.Step.{IdealResult, ideal_step, step_to, with_packet, issue_in, issued_in, await_in, land_in, message_in, credit_in, install_in, close_in, answered_in, answer_in, settle_in, make_in, make_for, revoke_in, send_close_in, closed_in, free_in, done_in, Starts_closing, Closes_endpoint, Sends_close, Frees, Finishes, after_ending}
 use Rattle.m3_base.specs.Ideal.MessageTraces.{state_after_steps}
 use Rattle.m3_base.specs.Ideal.Opening.{opening}
 use Rattle.m3_base.specs.Ideal.FlightNames.{Apart}
@@ -30,13 +30,12 @@ use Rattle.m3_laws.proofs.invariant.step.LookUps.{found_ended}
 use Rattle.m3_laws.proofs.invariant.step.LookUps.{found_changed}
 use Rattle.m3_laws.proofs.invariant.step.LookUps.{found_new}
 use Rattle.m3_laws.proofs.invariant.records.ClosingRecords.{to_closed}
-use Rattle.m3_laws.proofs.invariant.records.OrdersKeepRecords.{to_done}
-use Rattle.m3_laws.proofs.credits.Issue.{some_is, came_through}
+use Rattle.m3_laws.proofs.credits.Issue.{came_through}
 use Rattle.m3_laws.proofs.invariant.step.IssueEffects.{NewPacket, issue_effect}
-use Rattle.m3_laws.proofs.credits.Answer.{after_ending}
 use Rattle.m3_pipe_laws.specs.Pipe.{endpoint_in}
 use Rattle.m3_pipe_laws.specs.Exclusion.{Unused, AllUnused, WritesNot, NoWrites, NoWriteFlies}
 use Rattle.m3_pipe_laws.proofs.Runs.Opening.{calm_opening}
+use Rattle.std.proofs.lemmas.Option.{same_Some}
 
 -- no write through g
 abbrev pub NotBy : ℕ → Packet → Type 0
@@ -123,8 +122,8 @@ CommandNot g c k = Unit {0}
 issue_not : (g : ℕ) (c : Context) (k : Command) (i : Issued) → CommandNot g c k → issue c k ≡ Some i → NewNot g i.packet
 issue_not g c (Command.Send ep payload to) i h q = subst (λ z. NewNot g z.packet) (came_through (is_busy c) _ i q) (send_not g c ep payload to (endpoint c ep))
 issue_not g c (Command.Reply ep token payload) i h q = subst (λ z. NewNot g z.packet) (came_through (is_busy c) _ i q) (reply_not g c ep token payload (endpoint c ep))
-issue_not g c (Command.Fetch ep) i h q = subst (λ z. NewNot g z.packet) (some_is _ i q) (fetch_not g c ep (endpoint c ep))
-issue_not g c (Command.Acknowledge ep token) i h q = subst (λ z. NewNot g z.packet) (some_is _ i q) (acknowledge_not g c ep token (endpoint c ep))
+issue_not g c (Command.Fetch ep) i h q = subst (λ z. NewNot g z.packet) (same_Some _ i q) (fetch_not g c ep (endpoint c ep))
+issue_not g c (Command.Acknowledge ep token) i h q = subst (λ z. NewNot g z.packet) (same_Some _ i q) (acknowledge_not g c ep token (endpoint c ep))
 issue_not g c (Command.Read ep off len) i h q = subst (λ z. NewNot g z.packet) (came_through (is_busy c) _ i q) (read_not g c ep off len (endpoint c ep))
 issue_not g c (Command.Write ep off payload) i h q = subst (λ z. NewNot g z.packet) (came_through (is_busy c) _ i q) (write_not g c ep off payload (endpoint c ep) h)
 

@@ -15,13 +15,11 @@ use Rattle.m3_base.specs.Ideal.Context.{Flying, Free, Context, endpoint, with_en
 use Rattle.m3_base.specs.Ideal.Issue.{Issued, issue}
 use Rattle.m3_base.specs.Ideal.Landing.{flying_at, has_live, has_closing, flies_at, closed_at}
 use Rattle.m3_base.specs.Ideal.State.{State, Grant, context_of, put_context, grant_in, holder, holder_ep, parent_of, parent_in, undone}
-use Rattle.m3_base.specs.Ideal.GrantRules.{form, make_refusal, kernel_id, may_close, close_sent, change_grant, is_closed_grant, with_root_closing, closing_where, marks_under, new_grant, revoke_refusal, to_closing, or_false}
-use Rattle.m3_base.specs.Ideal.Step.{IdealResult, ideal_step, step_to, issue_in, issued_in, await_in, land_in, message_in, credit_in, install_in, close_in, answered_in, answer_in, settle_in, make_in, make_for, revoke_in, send_close_in, closed_in, free_in, done_in, Starts_closing, Closes_endpoint, Sends_close, Frees, Finishes}
+use Rattle.m3_base.specs.Ideal.GrantRules.{form, make_refusal, kernel_id, may_close, close_sent, change_grant, is_closed_grant, with_root_closing, closing_where, marks_under, new_grant, revoke_refusal, to_closing, or_false, to_root, to_done}
+use Rattle.m3_base.specs.Ideal.Step.{IdealResult, ideal_step, step_to, issue_in, issued_in, await_in, land_in, message_in, credit_in, install_in, close_in, answered_in, answer_in, settle_in, make_in, make_for, revoke_in, send_close_in, closed_in, free_in, done_in, Starts_closing, Closes_endpoint, Sends_close, Frees, Finishes, after_ending}
 use Rattle.m3_base.specs.Ideal.MessageTraces.{state_after_steps, final}
 use Rattle.m3_base.specs.Ideal.Opening.{opening}
-use Rattle.m3_laws.proofs.credits.Answer.{after_ending}
 use Rattle.m3_laws.proofs.invariant.records.ClosingRecords.{to_closed}
-use Rattle.m3_laws.proofs.invariant.records.OrdersKeepRecords.{to_done, to_root}
 use Rattle.m3_laws.proofs.grants.GrantList.{at_one}
 use Rattle.m3_laws.proofs.grants.OrdersKeepGrants.{closing_changes, one_changes}
 use Rattle.m3_laws.proofs.invariant.wellformed.ChangeKeeps.{Lasts, lasts_same, lasts_changed, lasts_added}

@@ -3,10 +3,9 @@ use Rattle.std.specs.Prelude.{◌≡◌, ℕ, List, [], ◌∷◌, Option, Some,
 use Rattle.m3_base.specs.declared.message.Message.{Message}
 use Rattle.m3_base.specs.declared.packet.Packet.{Packet}
 use Rattle.m3_base.specs.declared.ids.FlightId.{FlightId}
-use Rattle.m3_base.specs.Ideal.Flights.{flight}
+use Rattle.m3_base.specs.Ideal.Flights.{flight, flight_name as id}
 use Rattle.m3_base.specs.Ideal.Context.{Kind, Context, Flying, Fetched, Endpoint, Receives}
 use Rattle.m3_base.specs.Ideal.State.{State, context_of}
-use Rattle.m3_base.specs.Examples.Scripts.{id}
 
 -- ---- an activity's command that flies
 

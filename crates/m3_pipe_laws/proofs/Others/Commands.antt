@@ -15,14 +15,15 @@ use Rattle.m3_base.specs.Ideal.Step.{number_of}
 use Rattle.m3_laws.specs.Laws.{parent_at}
 use Rattle.m3_laws.specs.GrantInvariant.{IsHeldAt, FormLawful, form_of, ChildOf, QueueLawful}
 use Rattle.m3_laws.specs.Invariant.{Invariant}
-use Rattle.m3_laws.proofs.invariant.step.LookUps.{act_found}
-use Rattle.m3_laws.proofs.credits.Issue.{some_is, came_through}
+use Rattle.m3_laws.proofs.credits.Issue.{came_through}
 use Rattle.m3_laws.proofs.invariant.step.IssueEffects.{no_flags}
 use Rattle.m3_laws.proofs.credits.Counting.{at_set}
 use Rattle.m3_laws.proofs.invariant.records.QueueOwners.{fetched-found}
 use Rattle.m3_pipe_laws.proofs.Invariant.Sides.{Sides}
 use Rattle.m3_pipe_laws.proofs.Invariant.Isolation.{GrantsApart, MessageApart, AllApart, FetchedApart, QueueApart, WriterSends, ReaderSends}
 use Rattle.m3_pipe_laws.proofs.Others.Landings.{only_form, one_place}
+use Rattle.m3_base.proofs.Activities.{act_found}
+use Rattle.std.proofs.lemmas.Option.{same_Some}
 
 -- ---- queues
 
@@ -223,7 +224,7 @@ module _ (e : Sides) (s : State) (law : Invariant s) (grants : GrantsApart e s.g
   pub issue_leaves : (k : Command) (i : Issued) → (a ≡ e.w → WriterSends e k) → (a ≡ e.r → ReaderSends k) → issue c k ≡ Some i → Leaves e i
   issue_leaves (Command.Send ep payload to) i as_w as_r q = subst (Leaves e) (came_through (is_busy c) _ i q) (send_leaves ep payload to as_w as_r (endpoint c ep) refl)
   issue_leaves (Command.Reply ep token payload) i as_w as_r q = subst (Leaves e) (came_through (is_busy c) _ i q) (reply_leaves ep token payload (endpoint c ep) refl)
-  issue_leaves (Command.Fetch ep) i as_w as_r q = subst (Leaves e) (some_is _ i q) (fetch_leaves ep (endpoint c ep) refl)
-  issue_leaves (Command.Acknowledge ep token) i as_w as_r q = subst (Leaves e) (some_is _ i q) (acknowledge_leaves ep token (endpoint c ep) refl)
+  issue_leaves (Command.Fetch ep) i as_w as_r q = subst (Leaves e) (same_Some _ i q) (fetch_leaves ep (endpoint c ep) refl)
+  issue_leaves (Command.Acknowledge ep token) i as_w as_r q = subst (Leaves e) (same_Some _ i q) (acknowledge_leaves ep token (endpoint c ep) refl)
   issue_leaves (Command.Read ep off len) i as_w as_r q = subst (Leaves e) (came_through (is_busy c) _ i q) (read_leaves ep off len (endpoint c ep))
   issue_leaves (Command.Write ep off payload) i as_w as_r q = subst (Leaves e) (came_through (is_busy c) _ i q) (write_leaves ep off payload (endpoint c ep))

@@ -4,17 +4,17 @@ use Rattle.std.specs.Prelude.{if◌then◌else◌, ◌==◌, ◌⊎◌}
 use Rattle.m3_base.specs.declared.ids.FlightId.{FlightId}
 use Rattle.m3_base.specs.declared.message.Message.{Message}
 use Rattle.m3_base.specs.declared.packet.Packet.{Packet}
-use Rattle.m3_base.specs.Ideal.Flights.{flight, same_name, name_of, new_flight, change_flight, end_flight}
+use Rattle.m3_base.specs.Ideal.Flights.{flight, same_name, name_of, new_flight, change_flight, end_flight, flight_name}
 use Rattle.m3_base.specs.Ideal.Context.{Kind, Flying, Endpoint, Free, Sends, Receives, Reaches, Context, endpoint, with_endpoint}
-use Rattle.m3_base.specs.Ideal.Landing.{endpoints_with_credit, with_credit, closed_at, with_message, after_message, more_at}
-use Rattle.m3_base.specs.Ideal.State.{State, context_of, put_context, act_of, same_act, act_before}
-use Rattle.m3_base.proofs.KeyedList.{find-replaced_other, find-replaced_same}
-use Rattle.m3_base.proofs.FlightNames.{same_name-is, same_name-turned, flight-new, flight-change, flight-end}
-use Rattle.m3_laws.proofs.invariant.step.LookUps.{same_act-is, act_joins, same_act-itself}
+use Rattle.m3_base.specs.Ideal.Landing.{endpoints_with_credit, with_credit, closed_at, with_message, after_message, more_at, message_id}
+use Rattle.m3_base.specs.Ideal.State.{State, context_of, put_context, same_act}
+use Rattle.m3_base.proofs.FlightNames.{same_name-is, flight-new, flight-change, flight-end}
 use Rattle.m3_laws.proofs.credits.Counting.{at_set}
 use Rattle.m3_pipe_laws.specs.Pipe.{endpoint_at, endpoint_in}
 use Rattle.m3_pipe_laws.proofs.Invariant.Flights.{lone_flying, flying_in, flying_of, LoneFlight, queue_of}
-use Rattle.m3_base.specs.Examples.Scripts.{id as flight_name}
+use Rattle.m3_base.proofs.Activities.{same_act-is, context-put_other, context-put_same}
+use Rattle.m3_base.specs.Ideal.Step.{after_landing}
+use Rattle.m3_base.specs.declared.command.Answer.{Answer}
 
 -- the queue stays, or goes with its record
 abbrev pub Kept : Endpoint → Endpoint → Type 0
@@ -34,32 +34,26 @@ pub record Side (a ep : ℕ) (s n : State) : Type 0 where
 
 -- ---- one context changes
 
-pub flying_other : (a : ℕ) (d : Context) (cs : List Context) → same_act a d.act ≡ false → context_of a (put_context d cs) ≡ context_of a cs
-flying_other a d cs h = find-replaced_other act_of same_act act_before a d cs act_joins h
-
-pub context_now : (c d : Context) (cs : List Context) → context_of d.act cs ≡ Some c → context_of d.act (put_context d cs) ≡ Some d
-context_now c d cs at = find-replaced_same act_of same_act act_before d c cs (same_act-itself d.act) at
-
 pub steady_put : (a : ℕ) (s n : State) (c d : Context) → n.contexts ≡ put_context d s.contexts → context_of d.act s.contexts ≡ Some c → (a ≡ d.act → d.flying ≡ c.flying) → SameFlight a s n.flights → Steady a s n
 steady_put a s n c d q at h f = by_act (same_act a d.act) refl
   where
     by_act : (b : Bool) → same_act a d.act ≡ b → Steady a s n
-    by_act false w = record { flying = ap flying_in (ap (context_of a) q ∙ flying_other a d s.contexts w); flight = f }
+    by_act false w = record { flying = ap flying_in (ap (context_of a) q ∙ context-put_other a d s.contexts w); flight = f }
     by_act true w =
         let same : a ≡ d.act = same_act-is a d.act w in
         let old : context_of a s.contexts ≡ Some c = subst (λ z. context_of z s.contexts ≡ Some c) (sym same) at in
-        let new : context_of a n.contexts ≡ Some d = subst (λ z. context_of z n.contexts ≡ Some d) (sym same) (ap (context_of d.act) q ∙ context_now c d s.contexts at) in
+        let new : context_of a n.contexts ≡ Some d = subst (λ z. context_of z n.contexts ≡ Some d) (sym same) (ap (context_of d.act) q ∙ context-put_same c d s.contexts at) in
         record { flying = ap flying_in new ∙ (h same ∙ ap flying_in (sym old)); flight = f }
 
 pub side_put : (a ep : ℕ) (s n : State) (c d : Context) → n.contexts ≡ put_context d s.contexts → context_of d.act s.contexts ≡ Some c → (a ≡ d.act → (d.flying ≡ c.flying) × Kept (endpoint c ep) (endpoint d ep)) → SameFlight a s n.flights → Side a ep s n
 side_put a ep s n c d q at h f = record { steady = steady_put a s n c d q at (λ z. (h z).0) f; queue = by_act (same_act a d.act) refl }
   where
     by_act : (b : Bool) → same_act a d.act ≡ b → Kept (endpoint_at s a ep) (endpoint_at n a ep)
-    by_act false w = inl (ap (λ z. queue_of (endpoint_in ep z)) (ap (context_of a) q ∙ flying_other a d s.contexts w))
+    by_act false w = inl (ap (λ z. queue_of (endpoint_in ep z)) (ap (context_of a) q ∙ context-put_other a d s.contexts w))
     by_act true w =
         let same : a ≡ d.act = same_act-is a d.act w in
         let old : context_of a s.contexts ≡ Some c = subst (λ z. context_of z s.contexts ≡ Some c) (sym same) at in
-        let new : context_of a n.contexts ≡ Some d = subst (λ z. context_of z n.contexts ≡ Some d) (sym same) (ap (context_of d.act) q ∙ context_now c d s.contexts at) in
+        let new : context_of a n.contexts ≡ Some d = subst (λ z. context_of z n.contexts ≡ Some d) (sym same) (ap (context_of d.act) q ∙ context-put_same c d s.contexts at) in
         subst (λ z. Kept z (endpoint_at n a ep)) (ap (endpoint_in ep) (sym old)) (subst (λ z. Kept (endpoint c ep) z) (ap (endpoint_in ep) (sym new)) (h same).1)
 
 -- no context changes
@@ -185,3 +179,7 @@ kept_taken ep i m c ne = by_case (at_set c.endpoints ep i (with_message m (endpo
     by_case : (get_or (set c.endpoints ep (with_message m (endpoint c ep))) i Free ≡ get_or c.endpoints i Free) ⊎ ((i ≡ ep) × (get_or (set c.endpoints ep (with_message m (endpoint c ep))) i Free ≡ with_message m (endpoint c ep))) → Kept (endpoint c i) (endpoint (after_message ep m c) i)
     by_case (inl q) = inl (queue_taken ep i m c ∙ ap queue_of q)
     by_case (inr q) = absurd (ne q.0)
+
+-- after a message landed: its receiver's context, and the answer in its place
+abbrev pub message_landed : State → Message → Context → Answer → State
+message_landed s m d answer = after_landing s d (Packet.Answer (message_id m) answer)

@@ -16,28 +16,29 @@ use Rattle.m3_base.specs.Ideal.Context.{Kind, Sending, Replying, Flying, Endpoin
 use Rattle.m3_base.specs.Ideal.Issue.{Issued, issue, next_id}
 use Rattle.m3_base.specs.Ideal.Landing.{land_by, land_refusal, with_message, after_message, with_credit, endpoints_with_credit, more_at, closed_at, has_live, has_closing, flies_at, flying_at, context_after_answer, endpoint_after_answer, message_id, landed_answer, written_at, bytes_at}
 use Rattle.m3_base.specs.Ideal.State.{State, Grant, context_of, put_context, same_act, grant_in, holder, holder_ep, parent_of, parent_in, undone}
-use Rattle.m3_base.specs.Ideal.GrantRules.{form, make_refusal, kernel_id, may_close, close_sent, change_grant, is_closed_grant, after_revoke, with_root_closing, closing_where, marks_under, new_grant, to_closing, or_false}
-use Rattle.m3_base.specs.Ideal.Step.{IdealResult, step_to, with_packet, issue_in, issued_in, land_in, message_in, credit_in, install_in, close_in, answered_in, answer_in, settle_in, make_in, make_for, revoke_in, send_close_in, closed_in, free_in, done_in, Starts_closing, Closes_endpoint, Sends_close, Frees, Finishes, number_of}
+use Rattle.m3_base.specs.Ideal.GrantRules.{form, make_refusal, kernel_id, may_close, close_sent, change_grant, is_closed_grant, after_revoke, with_root_closing, closing_where, marks_under, new_grant, to_closing, or_false, to_root, to_done}
+use Rattle.m3_base.specs.Ideal.Step.{IdealResult, step_to, with_packet, issue_in, issued_in, land_in, message_in, credit_in, install_in, close_in, answered_in, answer_in, settle_in, make_in, make_for, revoke_in, send_close_in, closed_in, free_in, done_in, Starts_closing, Closes_endpoint, Sends_close, Frees, Finishes, number_of, after_ending}
 use Rattle.m3_base.specs.Ideal.FlightNames.{Apart}
 use Rattle.m3_laws.specs.Laws.{parent_at}
 use Rattle.m3_laws.specs.GrantInvariant.{IsHeldAt}
 use Rattle.m3_laws.specs.Invariant.{Invariant}
-use Rattle.m3_laws.proofs.invariant.step.LookUps.{act_found, name_found, found_after}
+use Rattle.m3_laws.proofs.invariant.step.LookUps.{name_found, found_after}
 use Rattle.m3_laws.proofs.invariant.step.LookUps.{found_ended}
 use Rattle.m3_laws.proofs.invariant.step.LookUps.{found_changed}
 use Rattle.m3_laws.proofs.invariant.step.LookUps.{found_new}
-use Rattle.m3_laws.proofs.invariant.records.OrdersKeepRecords.{form_number, to_done, to_root}
+use Rattle.m3_laws.proofs.invariant.records.OrdersKeepRecords.{form_number}
 use Rattle.m3_laws.proofs.invariant.records.ClosingRecords.{to_closed}
-use Rattle.m3_laws.proofs.grants.GrantList.{Changes, at_one, grant_added, grant_past, changed_from}
+use Rattle.m3_laws.proofs.grants.GrantList.{Changes, at_one, grant_added, changed_from}
 use Rattle.m3_laws.proofs.grants.OrdersKeepGrants.{closing_changes, one_changes}
 use Rattle.m3_laws.proofs.invariant.wellformed.ChangeKeeps.{Lasts, lasts_changed, lasts_added}
 use Rattle.m3_laws.proofs.invariant.step.IssueEffects.{NewPacket, issue_effect}
-use Rattle.m3_laws.proofs.credits.Answer.{after_ending}
 use Rattle.m3_pipe_laws.specs.Pipe.{Disjoint, WritesOutside, IssuesOutside, CommandOutside, MakesApart}
 use Rattle.m3_pipe_laws.proofs.Invariant.Sides.{Sides}
 use Rattle.m3_pipe_laws.proofs.Invariant.Isolation.{Alone, GrantsApart, MessageApart, QueueApart, PacketApart, Isolation, WriterSends, ReaderSends}
 use Rattle.m3_pipe_laws.proofs.Writer.Landings.{taken_act}
 use Rattle.m3_pipe_laws.proofs.Others.Commands.{EachApart, each_set, apart-push, fetched-less, fetched-marked, NewApart, issue_leaves}
+use Rattle.m3_base.proofs.Activities.{act_found}
+use Rattle.m3_base.proofs.GrantsByNumber.{grant_past}
 
 -- ---- grants
 

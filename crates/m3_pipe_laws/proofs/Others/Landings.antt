@@ -8,24 +8,23 @@ use Rattle.m3_base.specs.declared.command.Answer.{Answer}
 use Rattle.m3_base.specs.declared.command.Refusal.{Refusal}
 use Rattle.m3_base.specs.declared.packet.Packet.{Packet}
 use Rattle.m3_base.specs.declared.packet.Fresh.{Fresh}
-use Rattle.m3_base.specs.Ideal.Flights.{flight, same_name, name_of, change_flight}
+use Rattle.m3_base.specs.Ideal.Flights.{flight, same_name, name_of, change_flight, flight_name}
 use Rattle.m3_base.specs.Ideal.Context.{Kind, Flying, Endpoint, Context, endpoint, with_endpoint, new_endpoint}
-use Rattle.m3_base.specs.Ideal.Landing.{flying_at, land_by, land_refusal, after_message, with_credit, closed_at, has_live, flies_at, written_at, bytes_at, context_after_answer, with_message, message_id, landed_answer}
+use Rattle.m3_base.specs.Ideal.Landing.{flying_at, land_by, land_refusal, after_message, with_credit, closed_at, has_live, flies_at, written_at, bytes_at, context_after_answer, with_message, message_id, landed_answer, is_record_of}
 use Rattle.m3_base.specs.Ideal.State.{State, Grant, context_of, put_context, grant_in, holder, parent_of}
-use Rattle.m3_base.specs.Ideal.Step.{IdealResult, step_to, land_in, message_in, credit_in, install_in, close_in, answered_in, answer_in, settle_in, Starts_closing, Closes_endpoint, number_of}
+use Rattle.m3_base.specs.Ideal.Step.{IdealResult, step_to, land_in, message_in, credit_in, install_in, close_in, answered_in, answer_in, settle_in, Starts_closing, Closes_endpoint, number_of, after_ending}
 use Rattle.m3_laws.specs.Laws.{parent_at}
-use Rattle.m3_laws.specs.GrantInvariant.{IsHeldAt, FormLawful, form_of, is_record_of, ChildOf}
+use Rattle.m3_laws.specs.GrantInvariant.{IsHeldAt, FormLawful, form_of, ChildOf}
 use Rattle.m3_laws.specs.WellFormed.{CommandUse, use_of, use_in, use_by, expects, uses_send, uses_reply}
 use Rattle.m3_laws.specs.Invariant.{Invariant}
-use Rattle.m3_laws.proofs.invariant.step.LookUps.{act_found, name_found}
+use Rattle.m3_laws.proofs.invariant.step.LookUps.{name_found}
 use Rattle.m3_laws.proofs.credits.CreditReturns.{form_at}
 use Rattle.m3_laws.proofs.grants.RevokedIsGone.{refused_there}
-use Rattle.m3_laws.proofs.credits.Answer.{after_ending}
 use Rattle.m3_pipe_laws.proofs.Invariant.Sides.{Sides}
 use Rattle.m3_pipe_laws.proofs.Invariant.Isolation.{Alone, PacketApart, Isolation}
 use Rattle.m3_pipe_laws.proofs.Invariant.Flights.{lone_flying, flying_in, flying_of}
-use Rattle.m3_base.specs.Examples.Scripts.{id as flight_name}
 use Rattle.m3_pipe_laws.proofs.Others.Frames.{Kept, Side, side_put, side_same, NotOwn, IsOwn, same_changed, same_ended, kept_same, kept_closed, kept_set, kept_taken, queue_credited}
+use Rattle.m3_base.proofs.Activities.{act_found}
 
 -- ---- records and their grants
 

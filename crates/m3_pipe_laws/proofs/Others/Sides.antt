@@ -8,28 +8,26 @@ use Rattle.m3_base.specs.declared.command.Command.{Command}
 use Rattle.m3_base.specs.declared.order.GrantLine.{GrantLine}
 use Rattle.m3_base.specs.declared.event.No.{No}
 use Rattle.m3_base.specs.declared.program.Move.{Move}
-use Rattle.m3_base.specs.Ideal.Flights.{kernel, same_name, name_of, new_flight}
+use Rattle.m3_base.specs.Ideal.Flights.{kernel, same_name, name_of, new_flight, flight_name}
 use Rattle.m3_base.specs.Ideal.Context.{Sending, Replying, Reading, Writing, Free, Context, endpoint, with_endpoint}
 use Rattle.m3_base.specs.Ideal.Issue.{Issued, issue}
 use Rattle.m3_base.specs.Ideal.Landing.{has_closing, flies_at, written_at}
 use Rattle.m3_base.specs.Ideal.State.{State, Grant, context_of, put_context, holder, holder_ep, parent_of, parent_in, undone}
-use Rattle.m3_base.specs.Ideal.GrantRules.{kernel_id, form, make_refusal, may_close, close_sent, change_grant, is_closed_grant}
+use Rattle.m3_base.specs.Ideal.GrantRules.{kernel_id, form, make_refusal, may_close, close_sent, change_grant, is_closed_grant, to_done}
 use Rattle.m3_base.specs.Ideal.Step.{IdealResult, step_to, with_packet, make_in, make_for, revoke_in, send_close_in, closed_in, free_in, done_in, Sends_close, Frees, Finishes}
 use Rattle.m3_laws.specs.Invariant.{Invariant}
-use Rattle.m3_laws.proofs.invariant.step.LookUps.{act_found}
 use Rattle.m3_laws.proofs.invariant.step.IssueEffects.{NewPacket, issue_effect}
 use Rattle.m3_laws.proofs.invariant.records.ClosingRecords.{to_closed}
-use Rattle.m3_laws.proofs.invariant.records.OrdersKeepRecords.{to_done}
 use Rattle.m3_pipe_laws.specs.Protocol.{WriterState, WriterPhase, Begins, Writes, Sends, Awaits, Fetches, Acknowledges, Over, ReaderState, ReaderPhase, Starts, Waits, Looks, Reads, Replies, Closes, Finished}
 use Rattle.m3_pipe_laws.specs.Pipe.{Player, Disjoint, endpoint_at}
 use Rattle.m3_pipe_laws.proofs.Invariant.Sides.{Sides}
 use Rattle.m3_pipe_laws.proofs.Invariant.Flights.{lone_flying, flying_in, Queue, queue_of}
-use Rattle.m3_base.specs.Examples.Scripts.{id as flight_name}
 use Rattle.m3_pipe_laws.proofs.Invariant.WriterSide.{WriterBy, WriterFlies, WriterSide, RepliesOk}
 use Rattle.m3_pipe_laws.proofs.Invariant.ReaderSide.{ReaderBy, ReaderFlies, ReaderSide, InboxOk}
 use Rattle.m3_pipe_laws.proofs.Invariant.WholePipe.{RingSide, Marks}
 use Rattle.m3_pipe_laws.proofs.Others.Frames.{SameFlight, Steady, Side, side_put, side_same, NotOwn, not_issuer, same_new, same_none, kept_set, flown_stays}
 use Rattle.m3_pipe_laws.proofs.Ring.Delivery.{other_write}
+use Rattle.m3_base.proofs.Activities.{act_found}
 
 -- ---- the two sides over a step that leaves them
 

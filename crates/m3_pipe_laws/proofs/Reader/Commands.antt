@@ -11,32 +11,30 @@ use Rattle.m3_base.specs.declared.command.Refusal.{Refusal}
 use Rattle.m3_base.specs.declared.command.Reply.{Reply}
 use Rattle.m3_base.specs.declared.program.Move.{Move}
 use Rattle.m3_base.specs.Lists.Counting.{one}
-use Rattle.m3_base.specs.Ideal.Flights.{flight, name_of, new_flight}
+use Rattle.m3_base.specs.Ideal.Flights.{flight, name_of, new_flight, flight_name}
 use Rattle.m3_base.specs.Ideal.Context.{Kind, Replying, Reading, Fetched, Endpoint, Free, Sends as Sends_by, Receives, Reaches, ReceiveRecord, Context, endpoint, with_endpoint}
 use Rattle.m3_base.specs.Ideal.ReceiveRecord.{with_fetched, fetched_at, unmarked_message, with_mark, with_mark_at}
 use Rattle.m3_base.specs.Ideal.Issue.{Gives, Issued, immediate_reply, unless_refusal, first_of, next_id, reply, reply_to, reply_packet, reply_refusal, fetch, fetch_from, access, access_refusal, read, may_read}
-use Rattle.m3_base.specs.Ideal.State.{State, context_of, put_context}
-use Rattle.m3_base.specs.Ideal.Step.{with_packet}
+use Rattle.m3_base.specs.Ideal.State.{State, context_of}
+use Rattle.m3_base.specs.Ideal.Step.{after_issue}
 use Rattle.m3_base.specs.Ideal.FlightNames.{Apart}
 use Rattle.m3_base.proofs.FlightOrder.{find-new}
 use Rattle.m3_laws.specs.GrantInvariant.{form_of}
 use Rattle.m3_laws.specs.Invariant.{Invariant}
-use Rattle.m3_laws.proofs.invariant.step.LookUps.{act_found}
 use Rattle.m3_laws.proofs.credits.Issue.{in_range}
 use Rattle.m3_pipe_laws.specs.Protocol.{Reader, ReaderState, ReaderPhase, Starts, Waits, Looks, Reads, Replies, Closes, Finished, Reaction, reader_step, reader_at_answer, reader_over, at_notice, is_next, reply_with_number, reader_reaction, with_token, read_notice, slot}
 use Rattle.m3_pipe_laws.specs.Pipe.{player_at_issue, endpoint_at, endpoint_in, SameRing}
 use Rattle.m3_pipe_laws.proofs.Invariant.Sides.{Sides, piece_of, has_one, place_at, SidesOk}
 use Rattle.m3_pipe_laws.proofs.Invariant.Isolation.{Isolation}
 use Rattle.m3_pipe_laws.proofs.Invariant.Flights.{lone_flying, flying_in, flying_of, LoneFlight, Queue, queue_of}
-use Rattle.m3_base.specs.Examples.Scripts.{id as flight_name}
 use Rattle.m3_pipe_laws.proofs.Invariant.WriterSide.{IsNotice}
 use Rattle.m3_pipe_laws.proofs.Invariant.ReaderSide.{ReaderCounts, ReadFlies, IsReply, ReaderFlies, Due, AreNotices, IsAtHand, AtHand, InboxIs, InboxOk, fetched_count, is_open_phase, holds_notice, ReaderSide}
 use Rattle.m3_pipe_laws.proofs.Invariant.WholePipe.{RingSide, Marks}
-use Rattle.m3_pipe_laws.proofs.Others.Frames.{context_now}
 use Rattle.m3_pipe_laws.proofs.Others.Landings.{Lone, form_there}
 use Rattle.m3_pipe_laws.proofs.Ring.Delivery.{piece_most}
 use Rattle.m3_pipe_laws.proofs.Writer.Commands.{start_of}
 use Rattle.m3_pipe_laws.proofs.Protocol.Notices.{notices_read}
+use Rattle.m3_base.proofs.Activities.{act_found, context-put_same}
 
 -- ---- where the reader goes on
 
@@ -92,15 +90,12 @@ module _ (e : Sides) (s : State) (law : Invariant s) (around : Isolation e s) (l
   is_act : e.r ≡ c.act
   is_act = act_found e.r c s.contexts at
 
-  abbrev pub issued : Issued → State
-  issued i = record s { contexts = put_context i.context s.contexts; flights = with_packet i.packet s.flights }
-
-  now : (i : Issued) → i.context.act ≡ c.act → context_of e.r (issued i).contexts ≡ Some i.context
+  now : (i : Issued) → i.context.act ≡ c.act → context_of e.r (after_issue s i).contexts ≡ Some i.context
   now i h =
       let same : e.r ≡ i.context.act = is_act ∙ sym h in
-      subst (λ z. context_of z (issued i).contexts ≡ Some i.context) (sym same) (context_now c i.context s.contexts (subst (λ z. context_of z s.contexts ≡ Some c) same at))
+      subst (λ z. context_of z (after_issue s i).contexts ≡ Some i.context) (sym same) (context-put_same c i.context s.contexts (subst (λ z. context_of z s.contexts ≡ Some c) same at))
 
-  new_queue : (i : Issued) → i.context.act ≡ c.act → queue_of (endpoint_at (issued i) e.r e.reader.recv) ≡ queue_of (endpoint i.context e.reader.recv)
+  new_queue : (i : Issued) → i.context.act ≡ c.act → queue_of (endpoint_at (after_issue s i) e.r e.reader.recv) ≡ queue_of (endpoint i.context e.reader.recv)
   new_queue i h = ap (λ z. queue_of (endpoint_in e.reader.recv z)) (now i h)
 
   old_inbox : InboxOk e p x.l.noticed x.over (queue_of (endpoint c e.reader.recv))
@@ -108,17 +103,17 @@ module _ (e : Sides) (s : State) (law : Invariant s) (around : Isolation e s) (l
 
   -- where its player stands then
   abbrev pub After : Issued → Type 0
-  After i = ReaderSide e (issued i) (player_at_issue (reader_step e.reader) e.r p i.told) takes x.l.noticed x.l.read x.l.replied x.took x.over x.shut
+  After i = ReaderSide e (after_issue s i) (player_at_issue (reader_step e.reader) e.r p i.told) takes x.l.noticed x.l.read x.l.replied x.took x.over x.shut
 
-  still_idle : (i : Issued) → i.context.act ≡ c.act → i.context.flying ≡ c.flying → flying_of e.r (issued i) ≡ []
+  still_idle : (i : Issued) → i.context.act ≡ c.act → i.context.flying ≡ c.flying → flying_of e.r (after_issue s i) ≡ []
   still_idle i h q = ap flying_in (now i h) ∙ (q ∙ idle)
 
   pub refused : (why : Refusal) → After (immediate_reply c (Reply.Refused why))
   refused why =
       let i = immediate_reply c (Reply.Refused why) in
-      subst (λ m. ReaderAt e (issued i) m takes x.l.noticed x.l.read x.l.replied x.took x.over x.shut) (sym (refused_finished e.reader p p.task why)) (finished_at e (issued i) p takes x.l.noticed x.l.read x.l.replied x.took x.over x.shut (still_idle i refl refl) taken)
+      subst (λ m. ReaderAt e (after_issue s i) m takes x.l.noticed x.l.read x.l.replied x.took x.over x.shut) (sym (refused_finished e.reader p p.task why)) (finished_at e (after_issue s i) p takes x.l.noticed x.l.read x.l.replied x.took x.over x.shut (still_idle i refl refl) taken)
 
-  new_flying : (i : Issued) (kind : Kind) (ep token : ℕ) → i.context.act ≡ c.act → i.context.flying ≡ c.flying ++ record { number = c.next; kind = kind; ep = ep; token = token } ∷ [] → flying_of e.r (issued i) ≡ lone_flying c.next kind ep token
+  new_flying : (i : Issued) (kind : Kind) (ep token : ℕ) → i.context.act ≡ c.act → i.context.flying ≡ c.flying ++ record { number = c.next; kind = kind; ep = ep; token = token } ∷ [] → flying_of e.r (after_issue s i) ≡ lone_flying c.next kind ep token
   new_flying i kind ep token h q = ap flying_in (now i h) ∙ (q ∙ ap (λ fs. fs ++ record { number = c.next; kind = kind; ep = ep; token = token } ∷ []) idle)
 
   new_found : (y : Packet) → name_of y ≡ next_id c → flight (flight_name e.r c.next) (new_flight y s.flights) ≡ Some y
@@ -148,12 +143,12 @@ module _ (e : Sides) (s : State) (law : Invariant s) (around : Isolation e s) (l
         place : r.start + slot e.reader.ring e.reader.chunk p.next ≡ place_at e p.next
         place = rw (start, ok.numbers.ring, ok.numbers.chunk) refl
 
-        flown : LoneFlight e.r (issued i) Reading e.reader.mem 0 (ReadFlies e p x.l.read x.l.replied x.took x.shut)
+        flown : LoneFlight e.r (after_issue s i) Reading e.reader.mem 0 (ReadFlies e p x.l.read x.l.replied x.took x.shut)
         flown = record { number = c.next; flying = new_flying i Reading e.reader.mem 0 refl refl; packet = y; found = new_found y refl; phase = (place, (length-replicate (length (piece_of e p.next)) 0, stood)) }
 
         by_why : (why : Option Refusal) → After (unless_refusal why c (access c Reading e.reader.mem y))
         by_why (Some why) = refused why
-        by_why None = record { by = subst (ReaderFlies e (issued i) p x.l.read x.l.replied x.took x.shut) (sym task) flown; due = due; inbox = subst (InboxOk e p x.l.noticed x.over) (sym (new_queue i refl)) old_inbox; taken = taken }
+        by_why None = record { by = subst (ReaderFlies e (after_issue s i) p x.l.read x.l.replied x.took x.shut) (sym task) flown; due = due; inbox = subst (InboxOk e p x.l.noticed x.over) (sym (new_queue i refl)) old_inbox; taken = taken }
 
   -- ---- a reply
 
@@ -194,7 +189,7 @@ module _ (e : Sides) (s : State) (law : Invariant s) (around : Isolation e s) (l
             let there : endpoint i.context e.reader.recv ≡ Receives (with_mark_at true r p.token) = get_or-set_same c.endpoints e.reader.recv (Receives (with_mark_at true r p.token)) Free (in_range c.endpoints e.reader.recv (λ z. some_record r (sym q ∙ z))) in
             let marked : with_mark true p.token r.fetched ≡ record f { marked = true } ∷ [] = ap (with_mark true p.token) hand.only ∙ marked_hand p.token f hand.token in
             record {
-              by = flown_as (issued i) (record {
+              by = flown_as (after_issue s i) (record {
                 number = c.next;
                 flying = new_flying i Replying e.reader.recv p.token refl refl;
                 packet = reply_packet c payload m;
@@ -214,8 +209,8 @@ module _ (e : Sides) (s : State) (law : Invariant s) (around : Isolation e s) (l
   -- ---- a fetch
 
   module _ (task : p.task ≡ Looks) (stood : ReaderCounts x.l.read x.l.replied x.took x.shut p.next p.next p.next) where
-    told_fetch : (i : Issued) (answer : Reply) → i.told ≡ Gives answer → ReaderAt e (issued i) (reader_at_answer e.reader p Looks answer) takes x.l.noticed x.l.read x.l.replied x.took x.over x.shut → After i
-    told_fetch i answer q h = subst (λ z. ReaderSide e (issued i) (player_at_issue (reader_step e.reader) e.r p z) takes x.l.noticed x.l.read x.l.replied x.took x.over x.shut) (sym q) (subst (λ z. ReaderAt e (issued i) (reader_at_answer e.reader p z answer) takes x.l.noticed x.l.read x.l.replied x.took x.over x.shut) (sym task) h)
+    told_fetch : (i : Issued) (answer : Reply) → i.told ≡ Gives answer → ReaderAt e (after_issue s i) (reader_at_answer e.reader p Looks answer) takes x.l.noticed x.l.read x.l.replied x.took x.over x.shut → After i
+    told_fetch i answer q h = subst (λ z. ReaderSide e (after_issue s i) (player_at_issue (reader_step e.reader) e.r p z) takes x.l.noticed x.l.read x.l.replied x.took x.over x.shut) (sym q) (subst (λ z. ReaderAt e (after_issue s i) (reader_at_answer e.reader p z answer) takes x.l.noticed x.l.read x.l.replied x.took x.over x.shut) (sym task) h)
 
     module _ (r : ReceiveRecord) (m : Message) (ms : List Message) (q : endpoint c e.reader.recv ≡ Receives r) (u : r.unread ≡ m ∷ ms) where
       abbrev pub i : Issued
@@ -239,11 +234,11 @@ module _ (e : Sides) (s : State) (law : Invariant s) (around : Isolation e s) (l
       some_record : (y : ReceiveRecord) → Receives y ≡ Free → ⊥
       some_record y z = absurd (cc)
 
-      there : queue_of (endpoint_at (issued i) e.r e.reader.recv) ≡ Some (record { unread = ms; fetched = r.fetched ++ record { token = r.next_token; marked = false; message = m } ∷ [] })
+      there : queue_of (endpoint_at (after_issue s i) e.r e.reader.recv) ≡ Some (record { unread = ms; fetched = r.fetched ++ record { token = r.next_token; marked = false; message = m } ∷ [] })
       there = new_queue i refl ∙ ap queue_of (get_or-set_same c.endpoints e.reader.recv (Receives (with_fetched r m ms)) Free (in_range c.endpoints e.reader.recv (λ z. some_record r (sym q ∙ z))))
 
       -- with the notice at hand, whatever it does next
-      held : (t : ReaderPhase) → holds_notice t ≡ true → InboxOk e (record p { token = r.next_token; task = t }) x.l.noticed x.over (queue_of (endpoint_at (issued i) e.r e.reader.recv))
+      held : (t : ReaderPhase) → holds_notice t ≡ true → InboxOk e (record p { token = r.next_token; task = t }) x.l.noticed x.over (queue_of (endpoint_at (after_issue s i) e.r e.reader.recv))
       held t h = subst (InboxOk e (record p { token = r.next_token; task = t }) x.l.noticed x.over) (sym there) (λ on. record {
         notices = subst (λ z. AreNotices e (p.next + one z) ms) (sym h) are.1;
         count = ap (λ z. p.next + one z + length ms) h ∙ count;
@@ -284,8 +279,8 @@ module _ (e : Sides) (s : State) (law : Invariant s) (around : Isolation e s) (l
       stood_at : (t : ReaderPhase) → ReaderCounts x.l.read x.l.replied x.took x.shut p.next p.next p.next
       stood_at t = stood
 
-      next_move : (b z : Bool) → (length (piece_of e p.next) == 0) ≡ z → ReaderAt e (issued i) (if not b then reader_over (with_token p r.next_token) else (if z then reply_with_number e.reader (with_token p r.next_token) Closes else reader_reaction (with_token p r.next_token) Reads (Move.Do (Command.Read e.reader.mem (slot e.reader.ring e.reader.chunk p.next) (length (piece_of e p.next)))))) takes x.l.noticed x.l.read x.l.replied x.took x.over x.shut
-      next_move false z h = finished_at e (issued i) (with_token p r.next_token) takes x.l.noticed x.l.read x.l.replied x.took x.over x.shut (still_idle i refl refl) taken
+      next_move : (b z : Bool) → (length (piece_of e p.next) == 0) ≡ z → ReaderAt e (after_issue s i) (if not b then reader_over (with_token p r.next_token) else (if z then reply_with_number e.reader (with_token p r.next_token) Closes else reader_reaction (with_token p r.next_token) Reads (Move.Do (Command.Read e.reader.mem (slot e.reader.ring e.reader.chunk p.next) (length (piece_of e p.next)))))) takes x.l.noticed x.l.read x.l.replied x.took x.over x.shut
+      next_move false z h = finished_at e (after_issue s i) (with_token p r.next_token) takes x.l.noticed x.l.read x.l.replied x.took x.over x.shut (still_idle i refl refl) taken
       next_move true true h = record { by = (still_idle i refl refl, (refl, stood)); due = ends (no_length e p.next ok.numbers h); inbox = held Closes refl; taken = taken }
       next_move true false h = record { by = (still_idle i refl refl, (refl, stood)); due = announced_count (some_length e p.next ok.numbers h); inbox = held Reads refl; taken = taken }
 
@@ -296,12 +291,12 @@ module _ (e : Sides) (s : State) (law : Invariant s) (around : Isolation e s) (l
           ap read_notice are.0.payload ∙ notices_read p.next (length (piece_of e p.next)) small short
 
       pub fetched_now : After i
-      fetched_now = told_fetch i (Reply.Fetched r.next_token m) refl (subst (λ z. ReaderAt e (issued i) (at_notice e.reader (with_token p r.next_token) z) takes x.l.noticed x.l.read x.l.replied x.took x.over x.shut) (sym reads_it) (next_move (is_next e.reader (with_token p r.next_token) (record { number = p.next; size = length (piece_of e p.next) })) (length (piece_of e p.next) == 0) refl))
+      fetched_now = told_fetch i (Reply.Fetched r.next_token m) refl (subst (λ z. ReaderAt e (after_issue s i) (at_notice e.reader (with_token p r.next_token) z) takes x.l.noticed x.l.read x.l.replied x.took x.over x.shut) (sym reads_it) (next_move (is_next e.reader (with_token p r.next_token) (record { number = p.next; size = length (piece_of e p.next) })) (length (piece_of e p.next) == 0) refl))
 
     fetch_now : (r : ReceiveRecord) (ms : List Message) → endpoint c e.reader.recv ≡ Receives r → r.unread ≡ ms → After (fetch_from c e.reader.recv r ms)
     fetch_now r [] q u =
         let i = immediate_reply c Reply.Nothing in
-        told_fetch i Reply.Nothing refl (finished_at e (issued i) p takes x.l.noticed x.l.read x.l.replied x.took x.over x.shut (still_idle i refl refl) taken)
+        told_fetch i Reply.Nothing refl (finished_at e (after_issue s i) p takes x.l.noticed x.l.read x.l.replied x.took x.over x.shut (still_idle i refl refl) taken)
     fetch_now r (m ∷ ms) q u = fetched_now r m ms q u
 
     pub fetch_by : (ep : Endpoint) → endpoint c e.reader.recv ≡ ep → After (fetch c e.reader.recv ep)

@@ -11,13 +11,12 @@ use Rattle.m3_base.specs.declared.command.Refusal.{Refusal}
 use Rattle.m3_base.specs.declared.command.Reply.{Reply}
 use Rattle.m3_base.specs.declared.program.Seen.{Seen}
 use Rattle.m3_base.specs.Lists.Counting.{one}
-use Rattle.m3_base.specs.Ideal.Flights.{flight, change_flight}
+use Rattle.m3_base.specs.Ideal.Flights.{flight, change_flight, flight_name}
 use Rattle.m3_base.specs.Ideal.Context.{Kind, Replying, Reading, Fetched, Endpoint, Free, Sends as Sends_by, Receives, Reaches, ReceiveRecord, Context, endpoint}
 use Rattle.m3_base.specs.Ideal.ReceiveRecord.{without_token}
 use Rattle.m3_base.specs.Ideal.Landing.{land_refusal, landed_answer, message_id, after_message, context_after_answer, endpoint_after_answer, bytes_at}
-use Rattle.m3_base.specs.Ideal.State.{State, context_of, put_context, same_act}
-use Rattle.m3_laws.proofs.invariant.step.LookUps.{act_found, name_found}
-use Rattle.m3_laws.proofs.invariant.step.LookUps.{same_act-is}
+use Rattle.m3_base.specs.Ideal.State.{State, context_of, same_act}
+use Rattle.m3_laws.proofs.invariant.step.LookUps.{name_found}
 use Rattle.m3_laws.proofs.credits.Issue.{in_range}
 use Rattle.m3_laws.proofs.credits.Counting.{at_set}
 use Rattle.m3_pipe_laws.specs.Protocol.{WriterState, ReaderState, Waits, Reads, Replies, Closes, reader_step, reader_at_answer, reader_over, with_bytes, piece}
@@ -26,16 +25,16 @@ use Rattle.m3_base.specs.Journal.Replies.{reply_of}
 use Rattle.m3_pipe_laws.specs.Ring.{place_of, pieces}
 use Rattle.m3_pipe_laws.proofs.Invariant.Sides.{Sides, piece_of, place_at, SidesOk}
 use Rattle.m3_pipe_laws.proofs.Invariant.Flights.{lone_flying, flying_in, flying_of, LoneFlight, Queue, queue_of}
-use Rattle.m3_base.specs.Examples.Scripts.{id as flight_name}
 use Rattle.m3_pipe_laws.proofs.Invariant.WriterSide.{RepliesOk, WriterSide}
 use Rattle.m3_pipe_laws.proofs.Invariant.ReaderSide.{ReaderCounts, ReadFlies, ReplyFlies, EndFlies, ReaderFlies, Due, AreNotices, IsAtHand, AtHand, InboxIs, InboxOk, fetched_count, is_open_phase, holds_notice, ReaderSide}
 use Rattle.m3_pipe_laws.proofs.Invariant.WholePipe.{RingSide, Marks, PipeAt}
-use Rattle.m3_pipe_laws.proofs.Others.Frames.{Steady, side_put, side_same, steady_put, context_now, flying_other, NotOwn, not_issuer, same_changed, kept_same}
+use Rattle.m3_pipe_laws.proofs.Others.Frames.{Steady, side_put, side_same, steady_put, NotOwn, not_issuer, same_changed, kept_same, message_landed}
 use Rattle.m3_pipe_laws.proofs.Others.Sides.{writer_stays, writer_by}
 use Rattle.m3_pipe_laws.proofs.Ring.Delivery.{read_lands, reply_lands}
 use Rattle.m3_pipe_laws.proofs.Writer.Landings.{Joins, changed_found, landed_queue, taken_act, taken_flying}
 use Rattle.m3_pipe_laws.proofs.Writer.Answers.{is_reply, ended, ended_now, ended_idle, ended_queue, ended_side, pieces_on}
 use Rattle.m3_pipe_laws.proofs.Reader.Commands.{ReaderAt, finished_at, refused_finished}
+use Rattle.m3_base.proofs.Activities.{same_act-is, act_found, context-put_other, context-put_same}
 
 -- ---- the read lands
 
@@ -106,20 +105,17 @@ module _ (e : Sides) (s : State) (ok : SidesOk e) (pw : Player WriterState) (p :
   name : flight_name e.r number ≡ message_id m
   name = name_found (flight_name e.r number) (Packet.Message e.w e.writer.reply e.replies.grant m) s.flights find
 
-  abbrev pub after : Context → Answer → State
-  after d answer = record s { contexts = put_context d s.contexts; flights = change_flight (Packet.Answer (message_id m) answer) s.flights }
-
   not_writer : NotOwn e.w s (message_id m)
   not_writer = subst (NotOwn e.w s) name (not_issuer e.w s (flight_name e.r number) ok.apart)
 
-  reader_context : (d : Context) (answer : Answer) → d.act ≡ c.act → context_of e.r (after d answer).contexts ≡ context_of e.r s.contexts
-  reader_context d answer q = flying_other e.r d s.contexts (by_bool (same_act e.r d.act) refl)
+  reader_context : (d : Context) (answer : Answer) → d.act ≡ c.act → context_of e.r (message_landed s m d answer).contexts ≡ context_of e.r s.contexts
+  reader_context d answer q = context-put_other e.r d s.contexts (by_bool (same_act e.r d.act) refl)
     where
       by_bool : (b : Bool) → same_act e.r d.act ≡ b → b ≡ false
       by_bool false w = refl
       by_bool true w = absurd (ok.apart (sym (same_act-is e.r d.act w ∙ (q ∙ sym is_act))))
 
-  pub flown_after : (d : Context) (answer : Answer) (P : Packet → Type 0) → d.act ≡ c.act → P (Packet.Answer (message_id m) answer) → LoneFlight e.r (after d answer) Replying e.reader.recv p.token P
+  pub flown_after : (d : Context) (answer : Answer) (P : Packet → Type 0) → d.act ≡ c.act → P (Packet.Answer (message_id m) answer) → LoneFlight e.r (message_landed s m d answer) Replying e.reader.recv p.token P
   flown_after d answer P q phase = record {
     number = number;
     flying = ap flying_in (reader_context d answer q) ∙ fly;
@@ -128,15 +124,15 @@ module _ (e : Sides) (s : State) (ok : SidesOk e) (pw : Player WriterState) (p :
     phase = phase;
   }
 
-  reader_after : (d : Context) (answer : Answer) (replied : ℕ) (shut : Bool) → d.act ≡ c.act → ReaderFlies e (after d answer) p x.l.read replied x.took shut p.task → ReaderSide e (after d answer) (record { at = p; wants = None }) takes x.l.noticed x.l.read replied x.took x.over shut
+  reader_after : (d : Context) (answer : Answer) (replied : ℕ) (shut : Bool) → d.act ≡ c.act → ReaderFlies e (message_landed s m d answer) p x.l.read replied x.took shut p.task → ReaderSide e (message_landed s m d answer) (record { at = p; wants = None }) takes x.l.noticed x.l.read replied x.took x.over shut
   reader_after d answer replied shut q by = record { by = by; due = h.reader.due; inbox = subst (InboxOk e p x.l.noticed x.over) (ap (λ z. queue_of (endpoint_in e.reader.recv z)) (sym (reader_context d answer q))) h.reader.inbox; taken = h.reader.taken }
 
-  pub reply_refused : (why : Refusal) → ReaderFlies e (after c (Answer.Refused why)) p x.l.read x.l.replied x.took x.shut p.task → Joins e (after c (Answer.Refused why)) pw (record { at = p; wants = None }) last puts takes
+  pub reply_refused : (why : Refusal) → ReaderFlies e (message_landed s m c (Answer.Refused why)) p x.l.read x.l.replied x.took x.shut p.task → Joins e (message_landed s m c (Answer.Refused why)) pw (record { at = p; wants = None }) last puts takes
   reply_refused why by = record {
     marks = x;
     joined = record {
       ring = h.ring;
-      writer = writer_stays e s (after c (Answer.Refused why)) pw last x.l.written x.l.noticed x.put x.l.back x.l.replied x.over x.shut (side_put e.w e.writer.reply s (after c (Answer.Refused why)) c c refl (subst (λ z. context_of z s.contexts ≡ Some c) is_act at) (λ z. (refl, kept_same (endpoint c e.writer.reply))) (same_changed e.w s (Packet.Answer (message_id m) (Answer.Refused why)) not_writer)) h.writer;
+      writer = writer_stays e s (message_landed s m c (Answer.Refused why)) pw last x.l.written x.l.noticed x.put x.l.back x.l.replied x.over x.shut (side_put e.w e.writer.reply s (message_landed s m c (Answer.Refused why)) c c refl (subst (λ z. context_of z s.contexts ≡ Some c) is_act at) (λ z. (refl, kept_same (endpoint c e.writer.reply))) (same_changed e.w s (Packet.Answer (message_id m) (Answer.Refused why)) not_writer)) h.writer;
       reader = reader_after c (Answer.Refused why) x.l.replied x.shut refl by;
     };
   }
@@ -147,13 +143,13 @@ module _ (e : Sides) (s : State) (ok : SidesOk e) (pw : Player WriterState) (p :
   replies_more : (q : Queue) (d : ℕ) (shut : Bool) → x.l.replied + one x.shut + 1 ≤ d + one shut → RepliesOk pw.at x.l.replied x.shut (Some q) → RepliesOk pw.at d shut (Some (record { unread = q.unread ++ m ∷ []; fetched = q.fetched }))
   replies_more q d shut least k = omega (arith, least, k, length-append q.unread (m ∷ []))
 
-  writer_after : (replied : ℕ) (shut : Bool) → land_refusal e.replies.grant m (endpoint c e.writer.reply) ≡ None → x.l.replied + one x.shut + 1 ≤ replied + one shut → WriterSide e (after (after_message e.writer.reply m c) Answer.Replied) pw last x.l.written x.l.noticed x.put x.l.back replied x.over shut
+  writer_after : (replied : ℕ) (shut : Bool) → land_refusal e.replies.grant m (endpoint c e.writer.reply) ≡ None → x.l.replied + one x.shut + 1 ≤ replied + one shut → WriterSide e (message_landed s m (after_message e.writer.reply m c) Answer.Replied) pw last x.l.written x.l.noticed x.put x.l.back replied x.over shut
   writer_after replied shut lands least =
       let d = after_message e.writer.reply m c in
-      let n = after d Answer.Replied in
+      let n = message_landed s m d Answer.Replied in
       let there = landed_queue e.writer.reply e.replies.grant m c lands in
       let found : context_of d.act s.contexts ≡ Some c = subst (λ z. context_of z s.contexts ≡ Some c) (is_act ∙ sym (taken_act e.writer.reply m c)) at in
-      let now : context_of e.w n.contexts ≡ Some d = subst (λ z. context_of z n.contexts ≡ Some d) (taken_act e.writer.reply m c ∙ sym is_act) (context_now c d s.contexts found) in
+      let now : context_of e.w n.contexts ≡ Some d = subst (λ z. context_of z n.contexts ≡ Some d) (taken_act e.writer.reply m c ∙ sym is_act) (context-put_same c d s.contexts found) in
       let steady : Steady e.w s n = steady_put e.w s n c d refl found (λ z. taken_flying e.writer.reply m c) (same_changed e.w s (Packet.Answer (message_id m) Answer.Replied) not_writer) in
       let old : RepliesOk pw.at x.l.replied x.shut (queue_of (endpoint c e.writer.reply)) = subst (RepliesOk pw.at x.l.replied x.shut) (ap (λ z. queue_of (endpoint_in e.writer.reply z)) at) h.writer.replies in
       let old_some = subst (RepliesOk pw.at x.l.replied x.shut) (ap queue_of there.1.0) old in
@@ -165,8 +161,8 @@ module _ (e : Sides) (s : State) (ok : SidesOk e) (pw : Player WriterState) (p :
       }
 
   -- a chunk's reply
-  pub reply_landed : p.task ≡ Replies → ReaderCounts x.l.read x.l.replied x.took x.shut (p.next + 1) p.next (p.next + 1) → land_refusal e.replies.grant m (endpoint c e.writer.reply) ≡ None → Joins e (after (after_message e.writer.reply m c) (landed_answer m)) pw (record { at = p; wants = None }) last puts takes
-  reply_landed task stood lands = subst (λ z. Joins e (after (after_message e.writer.reply m c) z) pw (record { at = p; wants = None }) last puts takes) (sym is_replied) (record {
+  pub reply_landed : p.task ≡ Replies → ReaderCounts x.l.read x.l.replied x.took x.shut (p.next + 1) p.next (p.next + 1) → land_refusal e.replies.grant m (endpoint c e.writer.reply) ≡ None → Joins e (message_landed s m (after_message e.writer.reply m c) (landed_answer m)) pw (record { at = p; wants = None }) last puts takes
+  reply_landed task stood lands = subst (λ z. Joins e (message_landed s m (after_message e.writer.reply m c) z) pw (record { at = p; wants = None }) last puts takes) (sym is_replied) (record {
     marks = record x { l = record x.l { replied = x.l.replied + 1 } };
     joined = record {
       ring = record {
@@ -182,13 +178,13 @@ module _ (e : Sides) (s : State) (ok : SidesOk e) (pw : Player WriterState) (p :
         takes = h.ring.takes;
       };
       writer = writer_after (x.l.replied + 1) x.shut lands (omega arith);
-      reader = reader_after (after_message e.writer.reply m c) Answer.Replied (x.l.replied + 1) x.shut (taken_act e.writer.reply m c) (subst (ReaderFlies e (after (after_message e.writer.reply m c) Answer.Replied) p x.l.read (x.l.replied + 1) x.took x.shut) (sym task) (flown_after (after_message e.writer.reply m c) Answer.Replied (ReplyFlies e p x.l.read (x.l.replied + 1) x.took x.shut) (taken_act e.writer.reply m c) (record { read = stood.read; replied = ap (λ z. z + 1) stood.replied; took = stood.took; more = stood.more })));
+      reader = reader_after (after_message e.writer.reply m c) Answer.Replied (x.l.replied + 1) x.shut (taken_act e.writer.reply m c) (subst (ReaderFlies e (message_landed s m (after_message e.writer.reply m c) Answer.Replied) p x.l.read (x.l.replied + 1) x.took x.shut) (sym task) (flown_after (after_message e.writer.reply m c) Answer.Replied (ReplyFlies e p x.l.read (x.l.replied + 1) x.took x.shut) (taken_act e.writer.reply m c) (record { read = stood.read; replied = ap (λ z. z + 1) stood.replied; took = stood.took; more = stood.more })));
     };
   })
 
   -- the end's reply
-  pub end_landed : p.task ≡ Closes → ReaderCounts x.l.read x.l.replied x.took x.shut p.next p.next p.next → land_refusal e.replies.grant m (endpoint c e.writer.reply) ≡ None → Joins e (after (after_message e.writer.reply m c) (landed_answer m)) pw (record { at = p; wants = None }) last puts takes
-  end_landed task stood lands = subst (λ z. Joins e (after (after_message e.writer.reply m c) z) pw (record { at = p; wants = None }) last puts takes) (sym is_replied) (record {
+  pub end_landed : p.task ≡ Closes → ReaderCounts x.l.read x.l.replied x.took x.shut p.next p.next p.next → land_refusal e.replies.grant m (endpoint c e.writer.reply) ≡ None → Joins e (message_landed s m (after_message e.writer.reply m c) (landed_answer m)) pw (record { at = p; wants = None }) last puts takes
+  end_landed task stood lands = subst (λ z. Joins e (message_landed s m (after_message e.writer.reply m c) z) pw (record { at = p; wants = None }) last puts takes) (sym is_replied) (record {
     marks = record x { shut = true };
     joined = record {
       ring = record {
@@ -204,7 +200,7 @@ module _ (e : Sides) (s : State) (ok : SidesOk e) (pw : Player WriterState) (p :
         takes = h.ring.takes;
       };
       writer = writer_after x.l.replied true lands (let z = ap one stood.more in omega (arith, z));
-      reader = reader_after (after_message e.writer.reply m c) Answer.Replied x.l.replied true (taken_act e.writer.reply m c) (subst (ReaderFlies e (after (after_message e.writer.reply m c) Answer.Replied) p x.l.read x.l.replied x.took true) (sym task) (flown_after (after_message e.writer.reply m c) Answer.Replied (EndFlies e p x.l.read x.l.replied x.took true) (taken_act e.writer.reply m c) tt));
+      reader = reader_after (after_message e.writer.reply m c) Answer.Replied x.l.replied true (taken_act e.writer.reply m c) (subst (ReaderFlies e (message_landed s m (after_message e.writer.reply m c) Answer.Replied) p x.l.read x.l.replied x.took true) (sym task) (flown_after (after_message e.writer.reply m c) Answer.Replied (EndFlies e p x.l.read x.l.replied x.took true) (taken_act e.writer.reply m c) tt));
     };
   })
 
@@ -223,10 +219,10 @@ module _ (e : Sides) (s : State) (ok : SidesOk e) (pw : Player WriterState) (p :
   writer_now : (answer : Answer) → WriterSide e (over_now answer) pw last x.l.written x.l.noticed x.put x.l.back x.l.replied x.over x.shut
   writer_now answer = writer_stays e s (over_now answer) pw last x.l.written x.l.noticed x.put x.l.back x.l.replied x.over x.shut (ended_side s e.r number kind ep token answer c at fly e.w e.writer.reply ok.apart) h.writer
 
-  abbrev pub ToldNow : Answer → Type 0
-  ToldNow answer = Joins e (over_now answer) pw (next_player (reader_step e.reader) e.r p (Seen.Answer (reply_of answer))) last puts (takes ++ bytes_if_read answer)
+  abbrev pub ReaderTold : Answer → Type 0
+  ReaderTold answer = Joins e (over_now answer) pw (next_player (reader_step e.reader) e.r p (Seen.Answer (reply_of answer))) last puts (takes ++ bytes_if_read answer)
 
-  finished_now : (answer : Answer) → bytes_if_read answer ≡ [] → reader_at_answer e.reader p p.task (reply_of answer) ≡ reader_over p → ToldNow answer
+  finished_now : (answer : Answer) → bytes_if_read answer ≡ [] → reader_at_answer e.reader p p.task (reply_of answer) ≡ reader_over p → ReaderTold answer
   finished_now answer none q = record {
     marks = x;
     joined = record {
@@ -236,11 +232,11 @@ module _ (e : Sides) (s : State) (ok : SidesOk e) (pw : Player WriterState) (p :
     };
   }
 
-  told_refused : (why : Refusal) → ToldNow (Answer.Refused why)
+  told_refused : (why : Refusal) → ReaderTold (Answer.Refused why)
   told_refused why = finished_now (Answer.Refused why) refl (refused_finished e.reader p p.task why)
 
   -- its read was answered
-  told_bytes : (y : FlightId) (bytes : List ℕ) → p.task ≡ Reads → is_reply kind ≡ false → ReadFlies e p x.l.read x.l.replied x.took x.shut (Packet.Answer y (Answer.Bytes bytes)) → ToldNow (Answer.Bytes bytes)
+  told_bytes : (y : FlightId) (bytes : List ℕ) → p.task ≡ Reads → is_reply kind ≡ false → ReadFlies e p x.l.read x.l.replied x.took x.shut (Packet.Answer y (Answer.Bytes bytes)) → ReaderTold (Answer.Bytes bytes)
   told_bytes y bytes task no_reply phase = record {
     marks = record x { took = x.took + 1 };
     joined = record {
@@ -279,14 +275,14 @@ module _ (e : Sides) (s : State) (ok : SidesOk e) (pw : Player WriterState) (p :
           let hand : IsAtHand e p q.fetched = subst (λ t. AtHand e p q.fetched (holds_notice t)) task is.hand in
           record { notices = subst (λ z. AreNotices e z q.unread) fetched_so is.notices; count = ap (λ z. z + length q.unread) (sym fetched_so) ∙ is.count; hand = record { fetched = hand.fetched; only = hand.only; token = hand.token; notice = hand.notice } }
 
-  pub reads_told : (y : FlightId) (answer : Answer) → p.task ≡ Reads → is_reply kind ≡ false → ReadFlies e p x.l.read x.l.replied x.took x.shut (Packet.Answer y answer) → ToldNow answer
+  pub reads_told : (y : FlightId) (answer : Answer) → p.task ≡ Reads → is_reply kind ≡ false → ReadFlies e p x.l.read x.l.replied x.took x.shut (Packet.Answer y answer) → ReaderTold answer
   reads_told y (Answer.Bytes bytes) task no_reply phase = told_bytes y bytes task no_reply phase
   reads_told y (Answer.Refused why) task no_reply phase = told_refused why
   reads_told y Answer.Sent task no_reply phase = absurd phase
   reads_told y Answer.Replied task no_reply phase = absurd phase
   reads_told y Answer.Written task no_reply phase = absurd phase
 
-  pub closes_told : (y : FlightId) (answer : Answer) → p.task ≡ Closes → EndFlies e p x.l.read x.l.replied x.took x.shut (Packet.Answer y answer) → ToldNow answer
+  pub closes_told : (y : FlightId) (answer : Answer) → p.task ≡ Closes → EndFlies e p x.l.read x.l.replied x.took x.shut (Packet.Answer y answer) → ReaderTold answer
   closes_told y Answer.Replied task phase = finished_now Answer.Replied refl (ap (λ t. reader_at_answer e.reader p t Reply.Replied) task)
   closes_told y (Answer.Refused why) task phase = told_refused why
   closes_told y Answer.Sent task phase = absurd phase
@@ -304,7 +300,7 @@ module _ (e : Sides) (s : State) (ok : SidesOk e) (pw : Player WriterState) (p :
   without_hand : (t : ℕ) (f : Fetched) → f.token ≡ t → without_token t (f ∷ []) ≡ []
   without_hand t f q = grind (arith, nat_tests, q)
 
-  told_replied : p.task ≡ Replies → ReaderCounts x.l.read x.l.replied x.took x.shut (p.next + 1) (p.next + 1) (p.next + 1) → ToldNow e s ok pw p last puts takes x h number Replying e.reader.recv p.token c at fly Answer.Replied
+  told_replied : p.task ≡ Replies → ReaderCounts x.l.read x.l.replied x.took x.shut (p.next + 1) (p.next + 1) (p.next + 1) → ReaderTold e s ok pw p last puts takes x h number Replying e.reader.recv p.token c at fly Answer.Replied
   told_replied task stood = record {
     marks = x;
     joined = record {
@@ -354,7 +350,7 @@ module _ (e : Sides) (s : State) (ok : SidesOk e) (pw : Player WriterState) (p :
           let same : p.next + 1 + 0 ≡ fetched_count p = omega (arith, fetched_so) in
           subst (InboxOk e next x.l.noticed x.over) (sym there) (λ on. record { notices = subst (λ z. AreNotices e z r.unread) (sym same) is.notices; count = ap (λ z. z + length r.unread) same ∙ is.count; hand = gone })
 
-  pub replies_told : (y : FlightId) (answer : Answer) → p.task ≡ Replies → ReplyFlies e p x.l.read x.l.replied x.took x.shut (Packet.Answer y answer) → ToldNow e s ok pw p last puts takes x h number Replying e.reader.recv p.token c at fly answer
+  pub replies_told : (y : FlightId) (answer : Answer) → p.task ≡ Replies → ReplyFlies e p x.l.read x.l.replied x.took x.shut (Packet.Answer y answer) → ReaderTold e s ok pw p last puts takes x h number Replying e.reader.recv p.token c at fly answer
   replies_told y Answer.Replied task phase = told_replied task phase
   replies_told y (Answer.Refused why) task phase = told_refused e s ok pw p last puts takes x h number Replying e.reader.recv p.token c at fly why
   replies_told y Answer.Sent task phase = absurd phase

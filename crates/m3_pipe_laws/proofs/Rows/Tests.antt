@@ -16,16 +16,9 @@ use Rattle.m3_base.specs.ExtentFiles.Table.{same_bytes}
 use Rattle.m3_laws.specs.Laws.{AllFit}
 use Rattle.m3_pipe_laws.specs.Protocol.{Reaction, Writer, Reader}
 use Rattle.m3_pipe_laws.specs.Pipe.{Player, player_after, Plays, IsMove, WritesOutside, IssuesOutside, CommandOutside, StepOutside, AllOutside, AllMakesApart}
+use Rattle.std.proofs.lemmas.Bool.{and_parts}
 
 -- ---- premises that compute
-
-and_left : (a b : Bool) → (a && b) ≡ true → a ≡ true
-and_left true b q = refl
-and_left false b q = absurd (cc)
-
-and_right : (a b : Bool) → (a && b) ≡ true → b ≡ true
-and_right true b q = q
-and_right false b q = absurd (cc)
 
 -- whether two moves are the same
 same_bytes-is : (xs ys : List ℕ) → same_bytes xs ys ≡ true → xs ≡ ys
@@ -34,7 +27,7 @@ same_bytes-is [] (y ∷ ys) q = absurd (cc)
 same_bytes-is (x ∷ xs) [] q = absurd (cc)
 same_bytes-is (x ∷ xs) (y ∷ ys) q =
     let a : x ≡ y = grind (arith, nat_tests, q) in
-    let b : xs ≡ ys = same_bytes-is xs ys (and_right (x == y) (same_bytes xs ys) q) in
+    let b : xs ≡ ys = same_bytes-is xs ys (and_parts (x == y) (same_bytes xs ys) q).1 in
     cc
 
 abbrev pub same_option : Option ℕ → Option ℕ → Bool
@@ -59,10 +52,10 @@ same_command a b = false
 
 same_command-is : (a b : Command) → same_command a b ≡ true → a ≡ b
 same_command-is (Command.Send ep payload to) (Command.Send ep' payload' to') q =
-    let a : ep ≡ ep' = grind (arith, nat_tests, and_left (ep == ep') (same_bytes payload payload' && same_option to to') q) in
-    let r = and_right (ep == ep') (same_bytes payload payload' && same_option to to') q in
-    let b : payload ≡ payload' = same_bytes-is payload payload' (and_left (same_bytes payload payload') (same_option to to') r) in
-    let c : to ≡ to' = same_option-is to to' (and_right (same_bytes payload payload') (same_option to to') r) in
+    let a : ep ≡ ep' = grind (arith, nat_tests, (and_parts (ep == ep') (same_bytes payload payload' && same_option to to') q).0) in
+    let r = (and_parts (ep == ep') (same_bytes payload payload' && same_option to to') q).1 in
+    let b : payload ≡ payload' = same_bytes-is payload payload' (and_parts (same_bytes payload payload') (same_option to to') r).0 in
+    let c : to ≡ to' = same_option-is to to' (and_parts (same_bytes payload payload') (same_option to to') r).1 in
     cc
 same_command-is (Command.Send ep payload to) (Command.Reply ep' token' payload') q = absurd (cc)
 same_command-is (Command.Send ep payload to) (Command.Fetch ep') q = absurd (cc)
@@ -71,10 +64,10 @@ same_command-is (Command.Send ep payload to) (Command.Read ep' off' len') q = ab
 same_command-is (Command.Send ep payload to) (Command.Write ep' off' payload') q = absurd (cc)
 same_command-is (Command.Reply ep token payload) (Command.Send ep' payload' to') q = absurd (cc)
 same_command-is (Command.Reply ep token payload) (Command.Reply ep' token' payload') q =
-    let a : ep ≡ ep' = grind (arith, nat_tests, and_left (ep == ep') ((token == token') && same_bytes payload payload') q) in
-    let r = and_right (ep == ep') ((token == token') && same_bytes payload payload') q in
-    let b : token ≡ token' = grind (arith, nat_tests, and_left (token == token') (same_bytes payload payload') r) in
-    let c : payload ≡ payload' = same_bytes-is payload payload' (and_right (token == token') (same_bytes payload payload') r) in
+    let a : ep ≡ ep' = grind (arith, nat_tests, (and_parts (ep == ep') ((token == token') && same_bytes payload payload') q).0) in
+    let r = (and_parts (ep == ep') ((token == token') && same_bytes payload payload') q).1 in
+    let b : token ≡ token' = grind (arith, nat_tests, (and_parts (token == token') (same_bytes payload payload') r).0) in
+    let c : payload ≡ payload' = same_bytes-is payload payload' (and_parts (token == token') (same_bytes payload payload') r).1 in
     cc
 same_command-is (Command.Reply ep token payload) (Command.Fetch ep') q = absurd (cc)
 same_command-is (Command.Reply ep token payload) (Command.Acknowledge ep' token') q = absurd (cc)
@@ -90,8 +83,8 @@ same_command-is (Command.Acknowledge ep token) (Command.Send ep' payload' to') q
 same_command-is (Command.Acknowledge ep token) (Command.Reply ep' token' payload') q = absurd (cc)
 same_command-is (Command.Acknowledge ep token) (Command.Fetch ep') q = absurd (cc)
 same_command-is (Command.Acknowledge ep token) (Command.Acknowledge ep' token') q =
-    let a : ep ≡ ep' = grind (arith, nat_tests, and_left (ep == ep') (token == token') q) in
-    let b : token ≡ token' = grind (arith, nat_tests, and_right (ep == ep') (token == token') q) in
+    let a : ep ≡ ep' = grind (arith, nat_tests, (and_parts (ep == ep') (token == token') q).0) in
+    let b : token ≡ token' = grind (arith, nat_tests, (and_parts (ep == ep') (token == token') q).1) in
     cc
 same_command-is (Command.Acknowledge ep token) (Command.Read ep' off' len') q = absurd (cc)
 same_command-is (Command.Acknowledge ep token) (Command.Write ep' off' payload') q = absurd (cc)
@@ -100,10 +93,10 @@ same_command-is (Command.Read ep off len) (Command.Reply ep' token' payload') q 
 same_command-is (Command.Read ep off len) (Command.Fetch ep') q = absurd (cc)
 same_command-is (Command.Read ep off len) (Command.Acknowledge ep' token') q = absurd (cc)
 same_command-is (Command.Read ep off len) (Command.Read ep' off' len') q =
-    let a : ep ≡ ep' = grind (arith, nat_tests, and_left (ep == ep') ((off == off') && (len == len')) q) in
-    let r = and_right (ep == ep') ((off == off') && (len == len')) q in
-    let b : off ≡ off' = grind (arith, nat_tests, and_left (off == off') (len == len') r) in
-    let c : len ≡ len' = grind (arith, nat_tests, and_right (off == off') (len == len') r) in
+    let a : ep ≡ ep' = grind (arith, nat_tests, (and_parts (ep == ep') ((off == off') && (len == len')) q).0) in
+    let r = (and_parts (ep == ep') ((off == off') && (len == len')) q).1 in
+    let b : off ≡ off' = grind (arith, nat_tests, (and_parts (off == off') (len == len') r).0) in
+    let c : len ≡ len' = grind (arith, nat_tests, (and_parts (off == off') (len == len') r).1) in
     cc
 same_command-is (Command.Read ep off len) (Command.Write ep' off' payload') q = absurd (cc)
 same_command-is (Command.Write ep off payload) (Command.Send ep' payload' to') q = absurd (cc)
@@ -112,10 +105,10 @@ same_command-is (Command.Write ep off payload) (Command.Fetch ep') q = absurd (c
 same_command-is (Command.Write ep off payload) (Command.Acknowledge ep' token') q = absurd (cc)
 same_command-is (Command.Write ep off payload) (Command.Read ep' off' len') q = absurd (cc)
 same_command-is (Command.Write ep off payload) (Command.Write ep' off' payload') q =
-    let a : ep ≡ ep' = grind (arith, nat_tests, and_left (ep == ep') ((off == off') && same_bytes payload payload') q) in
-    let r = and_right (ep == ep') ((off == off') && same_bytes payload payload') q in
-    let b : off ≡ off' = grind (arith, nat_tests, and_left (off == off') (same_bytes payload payload') r) in
-    let c : payload ≡ payload' = same_bytes-is payload payload' (and_right (off == off') (same_bytes payload payload') r) in
+    let a : ep ≡ ep' = grind (arith, nat_tests, (and_parts (ep == ep') ((off == off') && same_bytes payload payload') q).0) in
+    let r = (and_parts (ep == ep') ((off == off') && same_bytes payload payload') q).1 in
+    let b : off ≡ off' = grind (arith, nat_tests, (and_parts (off == off') (same_bytes payload payload') r).0) in
+    let c : payload ≡ payload' = same_bytes-is payload payload' (and_parts (off == off') (same_bytes payload payload') r).1 in
     cc
 
 abbrev pub wants_command : Option Move → Command → Bool
@@ -166,7 +159,7 @@ module _ {W : Type 0} (step : W → Seen → Reaction W) (a : ℕ) where
 
   pub plays_by : (p : Player W) (s : State) (ts : List Step) → are_moves step a p s ts ≡ true → Plays step a p s ts
   plays_by p s [] q = tt
-  plays_by p s (t ∷ ts) q = (move_by p t (and_left (is_move a p t) _ q), plays_by (player_after step a p t (ideal_step s t)) (state_after_steps s (ideal_step s t)) ts (and_right (is_move a p t) _ q))
+  plays_by p s (t ∷ ts) q = (move_by p t (and_parts (is_move a p t) _ q).0, plays_by (player_after step a p t (ideal_step s t)) (state_after_steps s (ideal_step s t)) ts (and_parts (is_move a p t) _ q).1)
 
 -- no other activity writes at all
 abbrev pub quiet_packet : Option Packet → Bool
@@ -224,7 +217,7 @@ step_outside w start len s (Step.Done g) q = tt
 
 pub outside_by : (w start len : ℕ) (s : State) (ts : List Step) → all_quiet w s ts ≡ true → AllOutside w start len s ts
 outside_by w start len s [] q = tt
-outside_by w start len s (t ∷ ts) q = (step_outside w start len s t (and_left (quiet_step w s t) _ q), outside_by w start len (state_after_steps s (ideal_step s t)) ts (and_right (quiet_step w s t) _ q))
+outside_by w start len s (t ∷ ts) q = (step_outside w start len s t (and_parts (quiet_step w s t) _ q).0, outside_by w start len (state_after_steps s (ideal_step s t)) ts (and_parts (quiet_step w s t) _ q).1)
 
 -- no orders
 abbrev pub is_order : Step → Bool
@@ -269,8 +262,8 @@ under_none p [] j x q at = absurd (cc)
 under_none p (y ∷ gs) zero x q at = λ z.
     let same : y ≡ x = cc in
     let is : is_number p (parent_of y.line) ≡ true = ap (λ v. is_number p (parent_of v.line)) same ∙ (ap (is_number p) z ∙ grind (arith, nat_tests)) in
-    absurd (let u = and_left (not (is_number p (parent_of y.line))) _ q in grind (arith, is, u))
-under_none p (y ∷ gs) (suc j) x q at = under_none p gs j x (and_right (not (is_number p (parent_of y.line))) _ q) at
+    absurd (let u = (and_parts (not (is_number p (parent_of y.line))) _ q).0 in grind (arith, is, u))
+under_none p (y ∷ gs) (suc j) x q at = under_none p gs j x (and_parts (not (is_number p (parent_of y.line))) _ q).1 at
 
 pub in_slice : (gs : List Grant) (g : ℕ) (x : Grant) → grant_in gs g ≡ Some x → (j : ℕ) × ((slice_get gs j ≡ Some x) × (g ≡ j + 1))
 in_slice gs g x at = (g - 1, (grind (arith, nat_tests, at), grind (arith, nat_tests, at)))
@@ -285,8 +278,8 @@ under_only p g n [] j x q at z = absurd (cc)
 under_only p g n (y ∷ gs) zero x q at z =
     let same : y ≡ x = cc in
     let is : is_number p (parent_of y.line) ≡ true = ap (λ v. is_number p (parent_of v.line)) same ∙ (ap (is_number p) z ∙ grind (arith, nat_tests)) in
-    let u : (n == g) ≡ true = or_right (is_number p (parent_of y.line)) (n == g) is (and_left (not (is_number p (parent_of y.line)) || (n == g)) _ q) in
+    let u : (n == g) ≡ true = or_right (is_number p (parent_of y.line)) (n == g) is (and_parts (not (is_number p (parent_of y.line)) || (n == g)) _ q).0 in
     grind (arith, nat_tests, u)
 under_only p g n (y ∷ gs) (suc j) x q at z =
-    let rest = under_only p g (n + 1) gs j x (and_right (not (is_number p (parent_of y.line)) || (n == g)) _ q) at z in
+    let rest = under_only p g (n + 1) gs j x (and_parts (not (is_number p (parent_of y.line)) || (n == g)) _ q).1 at z in
     omega (arith, rest)

@@ -11,21 +11,19 @@ use Rattle.m3_base.specs.declared.command.Answer.{Answer}
 use Rattle.m3_base.specs.declared.program.Move.{Move}
 use Rattle.m3_base.specs.declared.program.Seen.{Seen}
 use Rattle.m3_base.specs.declared.step.Step.{Step}
-use Rattle.m3_base.specs.Ideal.Flights.{flight, change_flight}
+use Rattle.m3_base.specs.Ideal.Flights.{flight, change_flight, flight_name}
 use Rattle.m3_base.specs.Ideal.Context.{Kind, Sending, Replying, Reading, Writing, Flying, Context, endpoint, with_endpoint}
 use Rattle.m3_base.specs.Ideal.Landing.{flying_at, context_after_answer, written_at, has_live, flies_at, closed_at}
 use Rattle.m3_base.specs.Ideal.State.{State, context_of}
-use Rattle.m3_base.specs.Ideal.Step.{IdealResult, step_to, land_in, message_in, credit_in, install_in, close_in, answered_in, answer_in, settle_in, Starts_closing, Closes_endpoint}
+use Rattle.m3_base.specs.Ideal.Step.{IdealResult, step_to, land_in, message_in, credit_in, install_in, close_in, answered_in, answer_in, settle_in, Starts_closing, Closes_endpoint, after_ending}
 use Rattle.m3_laws.specs.Invariant.{Invariant}
 use Rattle.m3_laws.proofs.invariant.step.LookUps.{name_found}
-use Rattle.m3_laws.proofs.credits.Answer.{after_ending}
 use Rattle.m3_pipe_laws.specs.Protocol.{WriterState, WriterPhase, Begins, Writes, Sends, Awaits, Fetches, Acknowledges, Over, writer_step, ReaderState, ReaderPhase, Starts, Waits, Looks, Reads, Replies, Closes, Finished, reader_step}
 use Rattle.m3_pipe_laws.specs.Pipe.{Player, next_player, bytes_if_written, bytes_if_read, Disjoint}
 use Rattle.m3_base.specs.Journal.Replies.{reply_of}
 use Rattle.m3_pipe_laws.proofs.Invariant.Sides.{Sides, SidesOk}
 use Rattle.m3_pipe_laws.proofs.Invariant.Isolation.{Isolation}
 use Rattle.m3_pipe_laws.proofs.Invariant.Flights.{lone_flying, flying_in, flying_of}
-use Rattle.m3_base.specs.Examples.Scripts.{id as flight_name}
 use Rattle.m3_pipe_laws.proofs.Invariant.WriterSide.{WriteFlies, NoticeFlies, WriterFlies}
 use Rattle.m3_pipe_laws.proofs.Invariant.ReaderSide.{ReadFlies, ReplyFlies, EndFlies, ReaderFlies}
 use Rattle.m3_pipe_laws.proofs.Invariant.WholePipe.{Marks, PipeAt}

@@ -9,7 +9,7 @@ use Rattle.m3_base.specs.Lists.Counting.{one}
 use Rattle.m3_base.specs.Ideal.Context.{Sending, Replying, Reading, Writing, Context, endpoint}
 use Rattle.m3_base.specs.Ideal.Issue.{Issued, issue, is_busy, send, reply, fetch, acknowledge, read, write}
 use Rattle.m3_base.specs.Ideal.State.{State, context_of, put_context}
-use Rattle.m3_base.specs.Ideal.Step.{IdealResult, with_packet}
+use Rattle.m3_base.specs.Ideal.Step.{IdealResult, with_packet, after_issue}
 use Rattle.m3_base.specs.Ideal.MessageTraces.{state_after_steps}
 use Rattle.m3_laws.specs.Invariant.{Invariant}
 use Rattle.m3_pipe_laws.specs.Protocol.{WriterState, WriterPhase, Begins, Writes, Sends, Awaits, Fetches, Acknowledges, Over, writer_step, ReaderState, ReaderPhase, Starts, Waits, Looks, Reads, Replies, Closes, Finished, reader_step, notice, slot}
@@ -102,31 +102,28 @@ module _ (e : Sides) (s : State) (ok : SidesOk e) (law : Invariant s) (around : 
   has : WriterHas e s p x.l.back x.l.replied x.shut
   has = record { back = h.writer.back; few = h.writer.few; replies = h.writer.replies }
 
-  abbrev pub issued : Issued → State
-  issued i = record s { contexts = put_context i.context s.contexts; flights = with_packet i.packet s.flights }
+  reader_now : (k : Command) (i : Issued) → issue c k ≡ Some i → ReaderSide e (after_issue s i) pr takes x.l.noticed x.l.read x.l.replied x.took x.over x.shut
+  reader_now k i q = reader_stays e s (after_issue s i) pr takes x.l.noticed x.l.read x.l.replied x.took x.over x.shut (issue_side s law e.r e.reader.recv e.w c k i (λ z. ok.apart (sym z)) at q) h.reader
 
-  reader_now : (k : Command) (i : Issued) → issue c k ≡ Some i → ReaderSide e (issued i) pr takes x.l.noticed x.l.read x.l.replied x.took x.over x.shut
-  reader_now k i q = reader_stays e s (issued i) pr takes x.l.noticed x.l.read x.l.replied x.took x.over x.shut (issue_side s law e.r e.reader.recv e.w c k i (λ z. ok.apart (sym z)) at q) h.reader
-
-  busy_or_not : (k : Command) (last' : List ℕ) (i : Issued) → issue c k ≡ (if is_busy c then None else Some i) → (issue c k ≡ Some i → Joins e (issued i) (player_at_issue (writer_step e.writer) e.w p i.told) pr last' puts takes) → AllJoins e s p pr last' puts takes (issue c k)
+  busy_or_not : (k : Command) (last' : List ℕ) (i : Issued) → issue c k ≡ (if is_busy c then None else Some i) → (issue c k ≡ Some i → Joins e (after_issue s i) (player_at_issue (writer_step e.writer) e.w p i.told) pr last' puts takes) → AllJoins e s p pr last' puts takes (issue c k)
   busy_or_not k last' i q rest = by_busy (is_busy c) q
     where
       by_busy : (b : Bool) → issue c k ≡ (if b then None else Some i) → AllJoins e s p pr last' puts takes (issue c k)
       by_busy true q = subst (AllJoins e s p pr last' puts takes) (sym q) tt
       by_busy false q = subst (AllJoins e s p pr last' puts takes) (sym q) (rest q)
 
-  same_marks : (k : Command) (last' : List ℕ) (i : Issued) → WriterSide e (issued i) (player_at_issue (writer_step e.writer) e.w p i.told) last' x.l.written x.l.noticed x.put x.l.back x.l.replied x.over x.shut → issue c k ≡ Some i → Joins e (issued i) (player_at_issue (writer_step e.writer) e.w p i.told) pr last' puts takes
+  same_marks : (k : Command) (last' : List ℕ) (i : Issued) → WriterSide e (after_issue s i) (player_at_issue (writer_step e.writer) e.w p i.told) last' x.l.written x.l.noticed x.put x.l.back x.l.replied x.over x.shut → issue c k ≡ Some i → Joins e (after_issue s i) (player_at_issue (writer_step e.writer) e.w p i.told) pr last' puts takes
   same_marks k last' i side q = record { marks = x; joined = record { ring = h.ring; writer = side; reader = reader_now k i q } }
 
   -- a reply more is back
-  one_back_more : (token : ℕ) (i : Issued) → AtRest p x.l.written x.l.noticed x.put x.over → p.back < x.l.replied + one x.shut → WriterSide e (issued i) (player_at_issue (writer_step e.writer) e.w p i.told) [] x.l.written x.l.noticed x.put (if p.ended then x.l.back else x.l.back + 1) x.l.replied x.over x.shut → issue c (Command.Acknowledge e.writer.reply token) ≡ Some i → Joins e (issued i) (player_at_issue (writer_step e.writer) e.w p i.told) pr [] puts takes
+  one_back_more : (token : ℕ) (i : Issued) → AtRest p x.l.written x.l.noticed x.put x.over → p.back < x.l.replied + one x.shut → WriterSide e (after_issue s i) (player_at_issue (writer_step e.writer) e.w p i.told) [] x.l.written x.l.noticed x.put (if p.ended then x.l.back else x.l.back + 1) x.l.replied x.over x.shut → issue c (Command.Acknowledge e.writer.reply token) ≡ Some i → Joins e (after_issue s i) (player_at_issue (writer_step e.writer) e.w p i.told) pr [] puts takes
   one_back_more token i rest some side q = by_ended p.ended refl side
     where
       not_shut : (b : Bool) → x.shut ≡ b → x.over ≡ false → b ≡ false
       not_shut false w o = refl
       not_shut true w o = let z = h.ring.last_reply w in absurd (let y : true ≡ false = sym z ∙ o in cc)
 
-      by_ended : (b : Bool) → p.ended ≡ b → WriterSide e (issued i) (player_at_issue (writer_step e.writer) e.w p i.told) [] x.l.written x.l.noticed x.put (if b then x.l.back else x.l.back + 1) x.l.replied x.over x.shut → Joins e (issued i) (player_at_issue (writer_step e.writer) e.w p i.told) pr [] puts takes
+      by_ended : (b : Bool) → p.ended ≡ b → WriterSide e (after_issue s i) (player_at_issue (writer_step e.writer) e.w p i.told) [] x.l.written x.l.noticed x.put (if b then x.l.back else x.l.back + 1) x.l.replied x.over x.shut → Joins e (after_issue s i) (player_at_issue (writer_step e.writer) e.w p i.told) pr [] puts takes
       by_ended true w side = same_marks (Command.Acknowledge e.writer.reply token) [] i side q
       by_ended false w side =
           let open_end = ap one (not_shut x.shut refl (rest.over ∙ w)) in
@@ -141,7 +138,7 @@ module _ (e : Sides) (s : State) (ok : SidesOk e) (law : Invariant s) (around : 
             };
           }
 
-  ack_now : (token : ℕ) (doing : p.doing ≡ Acknowledges) (rest : AtRest p x.l.written x.l.noticed x.put x.over) (i : Issued) → Acked e s law around lone_w lone_r p c at idle x.l.written x.l.noticed x.put x.l.back x.l.replied x.over x.shut has [] doing rest i → issue c (Command.Acknowledge e.writer.reply token) ≡ Some i → Joins e (issued i) (player_at_issue (writer_step e.writer) e.w p i.told) pr [] puts takes
+  ack_now : (token : ℕ) (doing : p.doing ≡ Acknowledges) (rest : AtRest p x.l.written x.l.noticed x.put x.over) (i : Issued) → Acked e s law around lone_w lone_r p c at idle x.l.written x.l.noticed x.put x.l.back x.l.replied x.over x.shut has [] doing rest i → issue c (Command.Acknowledge e.writer.reply token) ≡ Some i → Joins e (after_issue s i) (player_at_issue (writer_step e.writer) e.w p i.told) pr [] puts takes
   ack_now token doing rest i (Not_acked side) q = same_marks (Command.Acknowledge e.writer.reply token) [] i side q
   ack_now token doing rest i (Is_acked some side) q = one_back_more token i rest some side q
 
@@ -179,13 +176,10 @@ module _ (e : Sides) (s : State) (ok : SidesOk e) (law : Invariant s) (around : 
   still : c.flying ≡ []
   still = ap flying_in (sym at) ∙ h.reader.by.0
 
-  abbrev pub given : Issued → State
-  given i = record s { contexts = put_context i.context s.contexts; flights = with_packet i.packet s.flights }
+  read_marks : (k : Command) (i : Issued) → ReaderSide e (after_issue s i) (player_at_issue (reader_step e.reader) e.r p i.told) takes x.l.noticed x.l.read x.l.replied x.took x.over x.shut → issue c k ≡ Some i → Joins e (after_issue s i) pw (player_at_issue (reader_step e.reader) e.r p i.told) last puts takes
+  read_marks k i side q = record { marks = x; joined = record { ring = h.ring; writer = writer_stays e s (after_issue s i) pw last x.l.written x.l.noticed x.put x.l.back x.l.replied x.over x.shut (issue_side s law e.w e.writer.reply e.r c k i ok.apart at q) h.writer; reader = side } }
 
-  read_marks : (k : Command) (i : Issued) → ReaderSide e (given i) (player_at_issue (reader_step e.reader) e.r p i.told) takes x.l.noticed x.l.read x.l.replied x.took x.over x.shut → issue c k ≡ Some i → Joins e (given i) pw (player_at_issue (reader_step e.reader) e.r p i.told) last puts takes
-  read_marks k i side q = record { marks = x; joined = record { ring = h.ring; writer = writer_stays e s (given i) pw last x.l.written x.l.noticed x.put x.l.back x.l.replied x.over x.shut (issue_side s law e.w e.writer.reply e.r c k i ok.apart at q) h.writer; reader = side } }
-
-  read_or_busy : (k : Command) (i : Issued) → issue c k ≡ (if is_busy c then None else Some i) → ReaderSide e (given i) (player_at_issue (reader_step e.reader) e.r p i.told) takes x.l.noticed x.l.read x.l.replied x.took x.over x.shut → AllReads e s pw p last puts takes (issue c k)
+  read_or_busy : (k : Command) (i : Issued) → issue c k ≡ (if is_busy c then None else Some i) → ReaderSide e (after_issue s i) (player_at_issue (reader_step e.reader) e.r p i.told) takes x.l.noticed x.l.read x.l.replied x.took x.over x.shut → AllReads e s pw p last puts takes (issue c k)
   read_or_busy k i q side = by_busy (is_busy c) q
     where
       by_busy : (b : Bool) → issue c k ≡ (if b then None else Some i) → AllReads e s pw p last puts takes (issue c k)

@@ -7,7 +7,7 @@ use Rattle.m3_base.specs.declared.packet.Packet.{Packet}
 use Rattle.m3_base.specs.declared.command.Answer.{Answer}
 use Rattle.m3_base.specs.declared.command.Refusal.{Refusal}
 use Rattle.m3_base.specs.declared.step.Step.{Step}
-use Rattle.m3_base.specs.Ideal.Flights.{flight}
+use Rattle.m3_base.specs.Ideal.Flights.{flight, flight_name}
 use Rattle.m3_base.specs.Ideal.Context.{Kind, Sending, Replying, Reading, Writing, Context, endpoint}
 use Rattle.m3_base.specs.Ideal.Landing.{land_by, land_refusal}
 use Rattle.m3_base.specs.Ideal.State.{State, context_of}
@@ -16,7 +16,6 @@ use Rattle.m3_pipe_laws.specs.Protocol.{WriterState, WriterPhase, Begins, Writes
 use Rattle.m3_pipe_laws.specs.Pipe.{Player}
 use Rattle.m3_pipe_laws.proofs.Invariant.Sides.{Sides, SidesOk}
 use Rattle.m3_pipe_laws.proofs.Invariant.Flights.{lone_flying, flying_of}
-use Rattle.m3_base.specs.Examples.Scripts.{id as flight_name}
 use Rattle.m3_pipe_laws.proofs.Invariant.WriterSide.{WriteFlies, NoticeFlies, WriterFlies}
 use Rattle.m3_pipe_laws.proofs.Invariant.ReaderSide.{ReadFlies, ReplyFlies, EndFlies, ReaderFlies}
 use Rattle.m3_pipe_laws.proofs.Invariant.WholePipe.{Marks, PipeAt}

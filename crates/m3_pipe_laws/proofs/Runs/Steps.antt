@@ -1,7 +1,6 @@
 -- Each step keeps a pipe's invariant: commands, awaits, orders, and all together.
 use Rattle.std.proofs.Common.{◌≡◌, ◌≢◌, ℕ, ◌+◌, Bool, true, false, List, [], ◌++◌, length, Some, None, refl, sym, subst, ◌∙◌, ap, arith}
 use Rattle.std.specs.Prelude.{Option, if◌then◌else◌, ◌==◌}
-use Rattle.std.proofs.lemmas.Bool.Decides.{nat_tests}
 use Rattle.m3_base.specs.declared.command.Command.{Command}
 use Rattle.m3_base.specs.declared.order.GrantLine.{GrantLine}
 use Rattle.m3_base.specs.declared.program.Move.{Move}
@@ -32,9 +31,7 @@ use Rattle.m3_pipe_laws.proofs.Others.Grants.{AllAround, land_around, answered_a
 use Rattle.m3_pipe_laws.proofs.Runs.Commands.{Goal, no_more, join_sides, lone_writer, lone_reader, AllJoins, AllReads, writer_issues, reader_issues, do_is, do_await, do_ended, await_ended}
 use Rattle.m3_pipe_laws.proofs.Runs.Landings.{JoinsAfter}
 use Rattle.m3_pipe_laws.proofs.Runs.Answers.{equal, unequal, by_who, relast, some_move, no_move, land_all, answer_all}
-
-is_equal : (a b : ℕ) → (a == b) ≡ true → a ≡ b
-is_equal a b h = grind (arith, nat_tests, h)
+use Rattle.std.proofs.lemmas.Bool.{eqb-true}
 
 -- ---- what the two programs send
 
@@ -126,11 +123,11 @@ module _ (e : Sides) (s : State) (ok : SidesOk e) (law : Invariant s) (around : 
         as_r (Some m) u h = issue_r ww m (some_move m (Move.Do k) u) h
 
         by_reader : (b : Bool) → (a == e.r) ≡ b → (a == e.w) ≡ false → Goal e s (record { at = p; wants = ww }) (record { at = q; wants = rw }) last puts takes (Step.Issue a k) (issue_in s (context_of a s.contexts) k)
-        by_reader true v w = subst (λ z. Goal e s (record { at = p; wants = ww }) (record { at = q; wants = rw }) last puts takes (Step.Issue z k) (issue_in s (context_of z s.contexts) k)) (sym (is_equal a e.r v)) (as_r rw (move_r v) h)
+        by_reader true v w = subst (λ z. Goal e s (record { at = p; wants = ww }) (record { at = q; wants = rw }) last puts takes (Step.Issue z k) (issue_in s (context_of z s.contexts) k)) (sym (eqb-true a e.r v)) (as_r rw (move_r v) h)
         by_reader false v w = issue_o ww rw a (λ z. let y : true ≡ false = sym (subst (λ u. (u == e.w) ≡ true) (sym z) (equal e.w)) ∙ w in absurd (cc)) (λ z. let y : true ≡ false = sym (subst (λ u. (u == e.r) ≡ true) (sym z) (equal e.r)) ∙ v in absurd (cc)) h (context_of a s.contexts) refl
 
         by_writer : (b : Bool) → (a == e.w) ≡ b → Goal e s (record { at = p; wants = ww }) (record { at = q; wants = rw }) last puts takes (Step.Issue a k) (issue_in s (context_of a s.contexts) k)
-        by_writer true w = subst (λ z. Goal e s (record { at = p; wants = ww }) (record { at = q; wants = rw }) last puts takes (Step.Issue z k) (issue_in s (context_of z s.contexts) k)) (sym (is_equal a e.w w)) (as_w ww (move_w w) h)
+        by_writer true w = subst (λ z. Goal e s (record { at = p; wants = ww }) (record { at = q; wants = rw }) last puts takes (Step.Issue z k) (issue_in s (context_of z s.contexts) k)) (sym (eqb-true a e.w w)) (as_w ww (move_w w) h)
         by_writer false w = by_reader (a == e.r) refl w
 
     sends_w : (ww rw : Option Move) (a : ℕ) → ((a == e.w) ≡ true → ww ≡ Some (Move.Do k)) → PipeAt e s (record { at = p; wants = ww }) (record { at = q; wants = rw }) last puts takes x → a ≡ e.w → WriterSends e k
@@ -187,7 +184,7 @@ module _ (e : Sides) (s : State) (ok : SidesOk e) (law : Invariant s) (around : 
       as_r (Some m) u h = awake_r m ep (record { at = p; wants = ww }) (some_move m (Move.Await ep) u) h
 
       both : (a == e.w) ≡ true → (a == e.r) ≡ true → ⊥
-      both u v = ok.apart (sym (is_equal a e.w u) ∙ is_equal a e.r v)
+      both u v = ok.apart (sym (eqb-true a e.w u) ∙ eqb-true a e.r v)
 
       by_acts : (b d : Bool) → (a == e.w) ≡ b → (a == e.r) ≡ d → Joins e s (if b then next_player (writer_step e.writer) e.w p Seen.Awake else record { at = p; wants = ww }) (if d then next_player (reader_step e.reader) e.r q Seen.Awake else record { at = q; wants = rw }) last (puts ++ []) (takes ++ [])
       by_acts true true u v = absurd (both u v)

@@ -14,24 +14,24 @@ use Rattle.m3_base.specs.Lists.Counting.{one}
 use Rattle.m3_base.specs.Ideal.Context.{Kind, Sending, Replying, Reading, Writing, Flying, Endpoint, Sends as Sends_by, Context, endpoint}
 use Rattle.m3_base.specs.Ideal.Landing.{without_flying, context_after_answer, endpoint_after_answer}
 use Rattle.m3_base.specs.Ideal.State.{State, context_of}
-use Rattle.m3_laws.proofs.invariant.step.LookUps.{act_found}
 use Rattle.m3_laws.proofs.credits.Counting.{at_set}
-use Rattle.m3_laws.proofs.credits.Answer.{after_ending}
 use Rattle.m3_pipe_laws.specs.Protocol.{WriterState, Writes, Sends, writer_step, writer_at_answer, with_notice_sent, piece, ReaderState}
 use Rattle.m3_pipe_laws.specs.Pipe.{Player, next_player, endpoint_at, endpoint_in, bytes_if_written, SameRing}
 use Rattle.m3_base.specs.Journal.Replies.{reply_of}
 use Rattle.m3_pipe_laws.specs.Ring.{pieces}
 use Rattle.m3_pipe_laws.proofs.Invariant.Sides.{Sides, piece_of, has_one, SidesOk}
 use Rattle.m3_pipe_laws.proofs.Invariant.Flights.{lone_flying, flying_in, flying_of, Queue, queue_of}
-use Rattle.m3_base.specs.Examples.Scripts.{id as flight_name}
 use Rattle.m3_base.specs.Lists.CountDown.{one_less}
 use Rattle.m3_pipe_laws.proofs.Invariant.WriterSide.{announced_count, AtRest, Busy, WriterCounts, count_with_chunk, WriteFlies, NoticeFlies, RepliesOk}
 use Rattle.m3_pipe_laws.proofs.Invariant.ReaderSide.{ReaderSide}
 use Rattle.m3_pipe_laws.proofs.Invariant.WholePipe.{RingSide, Marks, PipeAt}
-use Rattle.m3_pipe_laws.proofs.Others.Frames.{Side, side_put, context_now, not_issuer, same_ended}
+use Rattle.m3_pipe_laws.proofs.Others.Frames.{Side, side_put, not_issuer, same_ended}
 use Rattle.m3_pipe_laws.proofs.Others.Sides.{reader_stays}
 use Rattle.m3_pipe_laws.proofs.Writer.Commands.{WriterAt, WriterHas, over_at, chooses_at, refused_over, replies_doing}
 use Rattle.m3_pipe_laws.proofs.Writer.Landings.{Joins}
+use Rattle.m3_base.specs.Ideal.Flights.{flight_name}
+use Rattle.m3_base.proofs.Activities.{act_found, context-put_same}
+use Rattle.m3_base.specs.Ideal.Step.{after_ending}
 
 pub without_self : (k : ℕ) (kind : Kind) (ep token : ℕ) → without_flying k (lone_flying k kind ep token) ≡ []
 without_self k kind ep token = grind (arith, nat_tests)
@@ -59,7 +59,7 @@ module _ (s : State) (a number : ℕ) (kind : Kind) (ep token : ℕ) (answer : A
   is_act = act_found a c s.contexts at
 
   pub ended_now : context_of a ended.contexts ≡ Some (context_after_answer its answer c)
-  ended_now = subst (λ z. context_of z ended.contexts ≡ Some (context_after_answer its answer c)) (sym is_act) (context_now c (context_after_answer its answer c) s.contexts (subst (λ z. context_of z s.contexts ≡ Some c) is_act at))
+  ended_now = subst (λ z. context_of z ended.contexts ≡ Some (context_after_answer its answer c)) (sym is_act) (context-put_same c (context_after_answer its answer c) s.contexts (subst (λ z. context_of z s.contexts ≡ Some c) is_act at))
 
   pub ended_idle : flying_of a ended ≡ []
   ended_idle =
@@ -107,10 +107,10 @@ module _ (e : Sides) (s : State) (ok : SidesOk e) (p : WriterState) (pr : Player
   reader_now : (answer : Answer) → ReaderSide e (over_now answer) pr takes x.l.noticed x.l.read x.l.replied x.took x.over x.shut
   reader_now answer = reader_stays e s (over_now answer) pr takes x.l.noticed x.l.read x.l.replied x.took x.over x.shut (ended_side s e.w number kind ep 0 answer c at fly e.r e.reader.recv (λ q. ok.apart (sym q))) h.reader
 
-  abbrev pub ToldNow : Answer → Type 0
-  ToldNow answer = Joins e (over_now answer) (next_player (writer_step e.writer) e.w p (Seen.Answer (reply_of answer))) pr last (puts ++ bytes_if_written answer last) takes
+  abbrev pub WriterTold : Answer → Type 0
+  WriterTold answer = Joins e (over_now answer) (next_player (writer_step e.writer) e.w p (Seen.Answer (reply_of answer))) pr last (puts ++ bytes_if_written answer last) takes
 
-  told_refused : (why : Refusal) → ToldNow (Answer.Refused why)
+  told_refused : (why : Refusal) → WriterTold (Answer.Refused why)
   told_refused why = record {
     marks = x;
     joined = record {
@@ -121,7 +121,7 @@ module _ (e : Sides) (s : State) (ok : SidesOk e) (p : WriterState) (pr : Player
   }
 
   -- its write was answered
-  told_written : (y : FlightId) → p.doing ≡ Writes → WriteFlies e p x.l.written x.l.noticed x.put x.over last (Packet.Answer y Answer.Written) → ToldNow Answer.Written
+  told_written : (y : FlightId) → p.doing ≡ Writes → WriteFlies e p x.l.written x.l.noticed x.put x.over last (Packet.Answer y Answer.Written) → WriterTold Answer.Written
   told_written y doing phase = record {
     marks = record x { put = x.put + 1 };
     joined = record {
@@ -157,7 +157,7 @@ module _ (e : Sides) (s : State) (ok : SidesOk e) (p : WriterState) (pr : Player
       this = ap (λ z. p.sent + one z) phase.0
 
   -- its notice was answered
-  told_sent : (y : FlightId) → p.doing ≡ Sends → NoticeFlies e p x.l.written x.l.noticed x.put x.over (Packet.Answer y Answer.Sent) → ToldNow Answer.Sent
+  told_sent : (y : FlightId) → p.doing ≡ Sends → NoticeFlies e p x.l.written x.l.noticed x.put x.over (Packet.Answer y Answer.Sent) → WriterTold Answer.Sent
   told_sent y doing phase = record {
     marks = x;
     joined = record {
@@ -198,14 +198,14 @@ module _ (e : Sides) (s : State) (ok : SidesOk e) (p : WriterState) (pr : Player
         replies = replies_sent (queue_of (endpoint_at (over_now Answer.Sent) e.w e.writer.reply)) (has_now Answer.Sent).replies;
       }
 
-  pub writes_told : (y : FlightId) (answer : Answer) → p.doing ≡ Writes → WriteFlies e p x.l.written x.l.noticed x.put x.over last (Packet.Answer y answer) → ToldNow answer
+  pub writes_told : (y : FlightId) (answer : Answer) → p.doing ≡ Writes → WriteFlies e p x.l.written x.l.noticed x.put x.over last (Packet.Answer y answer) → WriterTold answer
   writes_told y Answer.Written doing phase = told_written y doing phase
   writes_told y (Answer.Refused why) doing phase = told_refused why
   writes_told y Answer.Sent doing phase = absurd phase
   writes_told y Answer.Replied doing phase = absurd phase
   writes_told y (Answer.Bytes bytes) doing phase = absurd phase
 
-  pub sends_told : (y : FlightId) (answer : Answer) → p.doing ≡ Sends → NoticeFlies e p x.l.written x.l.noticed x.put x.over (Packet.Answer y answer) → ToldNow answer
+  pub sends_told : (y : FlightId) (answer : Answer) → p.doing ≡ Sends → NoticeFlies e p x.l.written x.l.noticed x.put x.over (Packet.Answer y answer) → WriterTold answer
   sends_told y Answer.Sent doing phase = told_sent y doing phase
   sends_told y (Answer.Refused why) doing phase = told_refused why
   sends_told y Answer.Written doing phase = absurd phase

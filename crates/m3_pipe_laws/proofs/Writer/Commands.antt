@@ -10,17 +10,16 @@ use Rattle.m3_base.specs.declared.packet.Fresh.{Fresh}
 use Rattle.m3_base.specs.declared.command.Refusal.{Refusal}
 use Rattle.m3_base.specs.declared.command.Reply.{Reply}
 use Rattle.m3_base.specs.Lists.Counting.{one}
-use Rattle.m3_base.specs.Ideal.Flights.{flight, name_of, new_flight}
+use Rattle.m3_base.specs.Ideal.Flights.{flight, name_of, new_flight, flight_name}
 use Rattle.m3_base.specs.Ideal.Context.{Kind, Sending, Writing, Fetched, Endpoint, Free, Sends as Sends_by, Receives, Reaches, ReceiveRecord, Context, endpoint, with_endpoint}
 use Rattle.m3_base.specs.Ideal.ReceiveRecord.{with_fetched, fetched_at, unmarked_message, without_token, without_fetched}
 use Rattle.m3_base.specs.Ideal.Issue.{Gives, Flies, Issued, immediate_reply, unless_refusal, first_of, next_id, with_flying_command, live_receive, is_bad_reply, reply_grant, send, send_packet, send_refusal, less_one, fetch, fetch_from, acknowledge, acknowledge_at, after_acknowledge, access, access_refusal, write, may_write, or_else}
-use Rattle.m3_base.specs.Ideal.State.{State, context_of, put_context}
-use Rattle.m3_base.specs.Ideal.Step.{with_packet}
+use Rattle.m3_base.specs.Ideal.State.{State, context_of}
+use Rattle.m3_base.specs.Ideal.Step.{after_issue}
 use Rattle.m3_base.specs.Ideal.FlightNames.{Apart}
 use Rattle.m3_base.proofs.FlightOrder.{find-new}
 use Rattle.m3_laws.specs.GrantInvariant.{form_of}
 use Rattle.m3_laws.specs.Invariant.{Invariant}
-use Rattle.m3_laws.proofs.invariant.step.LookUps.{act_found}
 use Rattle.m3_laws.proofs.credits.Issue.{in_range}
 use Rattle.m3_laws.proofs.credits.Counting.{at_set}
 use Rattle.m3_pipe_laws.specs.Protocol.{Writer, WriterState, WriterPhase, Begins, Writes, Sends, Awaits, Fetches, Acknowledges, Over, Reaction, writer_step, writer_at_answer, writer_over, writer_choice, await_of_reply, write_of_piece, send_of_notice, is_answered, has_room, with_reply_back, slot, notice}
@@ -28,11 +27,10 @@ use Rattle.m3_pipe_laws.specs.Pipe.{player_at_issue, endpoint_at, endpoint_in}
 use Rattle.m3_pipe_laws.proofs.Invariant.Sides.{Sides, piece_of, has_one}
 use Rattle.m3_pipe_laws.proofs.Invariant.Isolation.{Isolation}
 use Rattle.m3_pipe_laws.proofs.Invariant.Flights.{lone_flying, flying_in, flying_of, LoneFlight, Queue, queue_of}
-use Rattle.m3_base.specs.Examples.Scripts.{id as flight_name}
 use Rattle.m3_base.specs.Lists.CountDown.{one_less}
 use Rattle.m3_pipe_laws.proofs.Invariant.WriterSide.{announced_count, AtRest, Busy, WriterCounts, count_with_chunk, WriteFlies, NoticeFlies, WriterFlies, RepliesOk, WriterSide}
-use Rattle.m3_pipe_laws.proofs.Others.Frames.{context_now}
 use Rattle.m3_pipe_laws.proofs.Others.Landings.{Lone, form_there}
+use Rattle.m3_base.proofs.Activities.{act_found, context-put_same}
 
 -- ---- where the writer goes on
 
@@ -143,42 +141,38 @@ module _ (e : Sides) (s : State) (law : Invariant s) (around : Isolation e s) (l
   is_act : e.w ≡ c.act
   is_act = act_found e.w c s.contexts at
 
-  -- the state after it
-  abbrev pub issued : Issued → State
-  issued i = record s { contexts = put_context i.context s.contexts; flights = with_packet i.packet s.flights }
-
-  now : (i : Issued) → i.context.act ≡ c.act → context_of e.w (issued i).contexts ≡ Some i.context
+  now : (i : Issued) → i.context.act ≡ c.act → context_of e.w (after_issue s i).contexts ≡ Some i.context
   now i h =
       let same : e.w ≡ i.context.act = is_act ∙ sym h in
-      subst (λ z. context_of z (issued i).contexts ≡ Some i.context) (sym same) (context_now c i.context s.contexts (subst (λ z. context_of z s.contexts ≡ Some c) same at))
+      subst (λ z. context_of z (after_issue s i).contexts ≡ Some i.context) (sym same) (context-put_same c i.context s.contexts (subst (λ z. context_of z s.contexts ≡ Some c) same at))
 
   old_queue : queue_of (endpoint_at s e.w e.writer.reply) ≡ queue_of (endpoint c e.writer.reply)
   old_queue = ap (λ z. queue_of (endpoint_in e.writer.reply z)) at
 
-  new_queue : (i : Issued) → i.context.act ≡ c.act → queue_of (endpoint_at (issued i) e.w e.writer.reply) ≡ queue_of (endpoint i.context e.writer.reply)
+  new_queue : (i : Issued) → i.context.act ≡ c.act → queue_of (endpoint_at (after_issue s i) e.w e.writer.reply) ≡ queue_of (endpoint i.context e.writer.reply)
   new_queue i h = ap (λ z. queue_of (endpoint_in e.writer.reply z)) (now i h)
 
   has_old : RepliesOk p d shut (queue_of (endpoint c e.writer.reply))
   has_old = subst (RepliesOk p d shut) old_queue has.replies
 
   -- where the queue of replies stays or is no queue
-  has_by : (i : Issued) → i.context.act ≡ c.act → (queue_of (endpoint i.context e.writer.reply) ≡ queue_of (endpoint c e.writer.reply)) ⊎ (queue_of (endpoint i.context e.writer.reply) ≡ None) → WriterHas e (issued i) p b d shut
+  has_by : (i : Issued) → i.context.act ≡ c.act → (queue_of (endpoint i.context e.writer.reply) ≡ queue_of (endpoint c e.writer.reply)) ⊎ (queue_of (endpoint i.context e.writer.reply) ≡ None) → WriterHas e (after_issue s i) p b d shut
   has_by i h (inl q) = record { back = has.back; few = has.few; replies = subst (RepliesOk p d shut) (sym (new_queue i h ∙ q)) has_old }
   has_by i h (inr q) = record { back = has.back; few = has.few; replies = subst (RepliesOk p d shut) (sym (new_queue i h ∙ q)) tt }
 
   -- where its player stands then
   abbrev pub After : List ℕ → ℕ → ℕ → ℕ → ℕ → Issued → Type 0
-  After last w' v' k' b' i = WriterSide e (issued i) (player_at_issue (writer_step e.writer) e.w p i.told) last w' v' k' b' d over shut
+  After last w' v' k' b' i = WriterSide e (after_issue s i) (player_at_issue (writer_step e.writer) e.w p i.told) last w' v' k' b' d over shut
 
-  still_idle : (i : Issued) → i.context.act ≡ c.act → i.context.flying ≡ c.flying → flying_of e.w (issued i) ≡ []
+  still_idle : (i : Issued) → i.context.act ≡ c.act → i.context.flying ≡ c.flying → flying_of e.w (after_issue s i) ≡ []
   still_idle i h q = ap flying_in (now i h) ∙ (q ∙ idle)
 
   pub refused : (last : List ℕ) (why : Refusal) → After last w v k b (immediate_reply c (Reply.Refused why))
   refused last why =
       let i = immediate_reply c (Reply.Refused why) in
-      subst (λ m. WriterAt e (issued i) m last w v k b d over shut) (sym (refused_over e.writer p p.doing why)) (over_at e (issued i) p last w v k b d over shut (still_idle i refl refl) (has_by i refl (inl refl)))
+      subst (λ m. WriterAt e (after_issue s i) m last w v k b d over shut) (sym (refused_over e.writer p p.doing why)) (over_at e (after_issue s i) p last w v k b d over shut (still_idle i refl refl) (has_by i refl (inl refl)))
 
-  new_flying : (i : Issued) (kind : Kind) (ep : ℕ) → i.context.act ≡ c.act → i.context.flying ≡ c.flying ++ record { number = c.next; kind = kind; ep = ep; token = 0 } ∷ [] → flying_of e.w (issued i) ≡ lone_flying c.next kind ep 0
+  new_flying : (i : Issued) (kind : Kind) (ep : ℕ) → i.context.act ≡ c.act → i.context.flying ≡ c.flying ++ record { number = c.next; kind = kind; ep = ep; token = 0 } ∷ [] → flying_of e.w (after_issue s i) ≡ lone_flying c.next kind ep 0
   new_flying i kind ep h q = ap flying_in (now i h) ∙ (q ∙ ap (λ fs. fs ++ record { number = c.next; kind = kind; ep = ep; token = 0 } ∷ []) idle)
 
   new_found : (x : Packet) → name_of x ≡ next_id c → flight (flight_name e.w c.next) (new_flight x s.flights) ≡ Some x
@@ -205,7 +199,7 @@ module _ (e : Sides) (s : State) (law : Invariant s) (around : Isolation e s) (l
         start : r.start ≡ e.out.start
         start = ap start_of (form_there e s law around lone_w lone_r e.w e.writer.mem (Fresh.Memory e.out.grant e.out.start e.out.length e.out.perm) (Fresh.Memory r.grant r.start r.length r.perm) c around.grants.out at (ap form_of q))
 
-        flown : LoneFlight e.w (issued i) Writing e.writer.mem 0 (WriteFlies e p w v k over (piece_of e p.sent))
+        flown : LoneFlight e.w (after_issue s i) Writing e.writer.mem 0 (WriteFlies e p w v k over (piece_of e p.sent))
         flown = record {
           number = c.next;
           flying = new_flying i Writing e.writer.mem refl refl;
@@ -216,7 +210,7 @@ module _ (e : Sides) (s : State) (law : Invariant s) (around : Isolation e s) (l
 
         by_why : (why : Option Refusal) → After (piece_of e p.sent) w v k b (unless_refusal why c (access c Writing e.writer.mem x))
         by_why (Some why) = refused (piece_of e p.sent) why
-        by_why None = let h = has_by i refl (inl refl) in record { by = subst (WriterFlies e (issued i) p w v k over (piece_of e p.sent)) (sym doing) flown; back = h.back; few = h.few; replies = h.replies }
+        by_why None = let h = has_by i refl (inl refl) in record { by = subst (WriterFlies e (after_issue s i) p w v k over (piece_of e p.sent)) (sym doing) flown; back = h.back; few = h.few; replies = h.replies }
 
   -- ---- a notice
 
@@ -250,7 +244,7 @@ module _ (e : Sides) (s : State) (law : Invariant s) (around : Isolation e s) (l
             let live = live_has (endpoint c e.writer.reply) (grind (arith, ok)) in
             live_is live.0 live.1.0 live.1.1
 
-        flown : send_refusal c r payload (Some e.writer.reply) ≡ None → LoneFlight e.w (issued i) Sending e.writer.send 0 (NoticeFlies e p w v k over)
+        flown : send_refusal c r payload (Some e.writer.reply) ≡ None → LoneFlight e.w (after_issue s i) Sending e.writer.send 0 (NoticeFlies e p w v k over)
         flown h = record {
           number = c.next;
           flying = new_flying i Sending e.writer.send refl refl;
@@ -268,13 +262,13 @@ module _ (e : Sides) (s : State) (law : Invariant s) (around : Isolation e s) (l
 
         by_why : (why : Option Refusal) → send_refusal c r payload (Some e.writer.reply) ≡ why → After last w v k b (unless_refusal why c i)
         by_why (Some why) h = refused last why
-        by_why None h = let y = has_by i refl queue in record { by = subst (WriterFlies e (issued i) p w v k over last) (sym doing) (flown h); back = y.back; few = y.few; replies = y.replies }
+        by_why None h = let y = has_by i refl queue in record { by = subst (WriterFlies e (after_issue s i) p w v k over last) (sym doing) (flown h); back = y.back; few = y.few; replies = y.replies }
 
   -- ---- its queue of replies
 
   module _ (last : List ℕ) (doing : p.doing ≡ Fetches) (rest : AtRest p w v k over) where
-    told_fetch : (i : Issued) (answer : Reply) → i.told ≡ Gives answer → WriterAt e (issued i) (writer_at_answer e.writer p Fetches answer) last w v k b d over shut → After last w v k b i
-    told_fetch i answer q h = subst (λ z. WriterSide e (issued i) (player_at_issue (writer_step e.writer) e.w p z) last w v k b d over shut) (sym q) (subst (λ z. WriterAt e (issued i) (writer_at_answer e.writer p z answer) last w v k b d over shut) (sym doing) h)
+    told_fetch : (i : Issued) (answer : Reply) → i.told ≡ Gives answer → WriterAt e (after_issue s i) (writer_at_answer e.writer p Fetches answer) last w v k b d over shut → After last w v k b i
+    told_fetch i answer q h = subst (λ z. WriterSide e (after_issue s i) (player_at_issue (writer_step e.writer) e.w p z) last w v k b d over shut) (sym q) (subst (λ z. WriterAt e (after_issue s i) (writer_at_answer e.writer p z answer) last w v k b d over shut) (sym doing) h)
 
     same_count : (r : ReceiveRecord) (m : Message) (ms : List Message) → endpoint c e.writer.reply ≡ Receives r → r.unread ≡ m ∷ ms → RepliesOk p d shut (queue_of (Receives (with_fetched r m ms)))
     same_count r m ms q u =
@@ -285,20 +279,20 @@ module _ (e : Sides) (s : State) (law : Invariant s) (around : Isolation e s) (l
     fetch_now : (r : ReceiveRecord) (ms : List Message) → endpoint c e.writer.reply ≡ Receives r → r.unread ≡ ms → After last w v k b (fetch_from c e.writer.reply r ms)
     fetch_now r [] q u =
         let i = immediate_reply c Reply.Nothing in
-        told_fetch i Reply.Nothing refl (over_at e (issued i) p last w v k b d over shut (still_idle i refl refl) (has_by i refl (inl refl)))
+        told_fetch i Reply.Nothing refl (over_at e (after_issue s i) p last w v k b d over shut (still_idle i refl refl) (has_by i refl (inl refl)))
     fetch_now r (m ∷ ms) q u =
         let i = immediate_reply (with_endpoint c e.writer.reply (Receives (with_fetched r m ms))) (Reply.Fetched r.next_token m) in
         told_fetch i (Reply.Fetched r.next_token m) refl (record {
           by = (still_idle i refl refl, (r.next_token, (refl, rest_doing p w v k over Acknowledges rest)));
           back = has.back;
           few = has.few;
-          replies = replies_doing p d shut Acknowledges (queue_of (endpoint_at (issued i) e.w e.writer.reply)) (by_set (at_set c.endpoints e.writer.reply e.writer.reply (Receives (with_fetched r m ms))));
+          replies = replies_doing p d shut Acknowledges (queue_of (endpoint_at (after_issue s i) e.w e.writer.reply)) (by_set (at_set c.endpoints e.writer.reply e.writer.reply (Receives (with_fetched r m ms))));
         })
       where
         i : Issued
         i = immediate_reply (with_endpoint c e.writer.reply (Receives (with_fetched r m ms))) (Reply.Fetched r.next_token m)
 
-        by_set : (endpoint i.context e.writer.reply ≡ endpoint c e.writer.reply) ⊎ ((e.writer.reply ≡ e.writer.reply) × (endpoint i.context e.writer.reply ≡ Receives (with_fetched r m ms))) → RepliesOk p d shut (queue_of (endpoint_at (issued i) e.w e.writer.reply))
+        by_set : (endpoint i.context e.writer.reply ≡ endpoint c e.writer.reply) ⊎ ((e.writer.reply ≡ e.writer.reply) × (endpoint i.context e.writer.reply ≡ Receives (with_fetched r m ms))) → RepliesOk p d shut (queue_of (endpoint_at (after_issue s i) e.w e.writer.reply))
         by_set (inl z) = subst (RepliesOk p d shut) (sym (new_queue i refl ∙ ap queue_of z)) has_old
         by_set (inr z) = subst (RepliesOk p d shut) (sym (new_queue i refl ∙ ap queue_of z.1)) (same_count r m ms q u)
 
@@ -317,8 +311,8 @@ module _ (e : Sides) (s : State) (law : Invariant s) (around : Isolation e s) (l
     abbrev pub back_after : ℕ
     back_after = if p.ended then b else b + 1
 
-    told_ack : (i : Issued) (credit : Option FlightId) → i.told ≡ Gives (Reply.Acknowledged credit) → WriterAt e (issued i) (writer_choice e.writer (with_reply_back p)) last w v k back_after d over shut → After last w v k back_after i
-    told_ack i credit q h = subst (λ z. WriterSide e (issued i) (player_at_issue (writer_step e.writer) e.w p z) last w v k back_after d over shut) (sym q) (subst (λ z. WriterAt e (issued i) (writer_at_answer e.writer p z (Reply.Acknowledged credit)) last w v k back_after d over shut) (sym doing) h)
+    told_ack : (i : Issued) (credit : Option FlightId) → i.told ≡ Gives (Reply.Acknowledged credit) → WriterAt e (after_issue s i) (writer_choice e.writer (with_reply_back p)) last w v k back_after d over shut → After last w v k back_after i
+    told_ack i credit q h = subst (λ z. WriterSide e (after_issue s i) (player_at_issue (writer_step e.writer) e.w p z) last w v k back_after d over shut) (sym q) (subst (λ z. WriterAt e (after_issue s i) (writer_at_answer e.writer p z (Reply.Acknowledged credit)) last w v k back_after d over shut) (sym doing) h)
 
     one_less_queued : (r : ReceiveRecord) (token : ℕ) (m : Message) → endpoint c e.writer.reply ≡ Receives r → unmarked_message (fetched_at token r.fetched) ≡ Some m → RepliesOk (with_reply_back p) d shut (queue_of (Receives (without_fetched r token)))
     one_less_queued r token m q u =
@@ -337,7 +331,7 @@ module _ (e : Sides) (s : State) (law : Invariant s) (around : Isolation e s) (l
     ack_at i r token m credit q u told act fly ends =
         let range = in_range c.endpoints e.writer.reply (λ z. some_record r (sym q ∙ z)) in
         let there : endpoint i.context e.writer.reply ≡ Receives (without_fetched r token) = ap (λ es. get_or es e.writer.reply Free) ends ∙ get_or-set_same c.endpoints e.writer.reply (Receives (without_fetched r token)) Free range in
-        told_ack i credit told (chooses_at e (issued i) (with_reply_back p) last w v k back_after d over shut (still_idle i act fly) (record {
+        told_ack i credit told (chooses_at e (after_issue s i) (with_reply_back p) last w v k back_after d over shut (still_idle i act fly) (record {
           back = λ h. ap (λ z. if z then b else b + 1) h ∙ ap (λ z. z + 1) (has.back h);
           few = has.few;
           replies = subst (RepliesOk (with_reply_back p) d shut) (sym (new_queue i act ∙ ap queue_of there)) (one_less_queued r token m q u);

@@ -9,26 +9,26 @@ use Rattle.m3_base.specs.declared.packet.Packet.{Packet}
 use Rattle.m3_base.specs.declared.command.Answer.{Answer}
 use Rattle.m3_base.specs.declared.command.Refusal.{Refusal}
 use Rattle.m3_base.specs.Lists.Counting.{one}
-use Rattle.m3_base.specs.Ideal.Flights.{flight, name_of, same_name, name_before, change_flight}
+use Rattle.m3_base.specs.Ideal.Flights.{flight, name_of, same_name, name_before, change_flight, flight_name}
 use Rattle.m3_base.specs.Ideal.Context.{Sending, Writing, Endpoint, Free, Sends as Sends_by, Receives, Reaches, ReceiveRecord, Context, endpoint, with_endpoint}
 use Rattle.m3_base.specs.Ideal.Landing.{land_refusal, landed_answer, message_id, with_message, after_message, with_credit, written_at}
-use Rattle.m3_base.specs.Ideal.State.{State, context_of, put_context}
+use Rattle.m3_base.specs.Ideal.State.{State, context_of, same_act}
 use Rattle.m3_base.proofs.KeyedList.{find-replaced_same}
 use Rattle.m3_base.proofs.FlightNames.{same_name-itself}
-use Rattle.m3_laws.proofs.invariant.step.LookUps.{act_found, name_found}
+use Rattle.m3_laws.proofs.invariant.step.LookUps.{name_found}
 use Rattle.m3_laws.proofs.credits.Issue.{in_range}
 use Rattle.m3_pipe_laws.specs.Protocol.{WriterState, Writes, Sends, piece, ReaderState, ReaderPhase, Starts, Waits, Looks, Reads, Replies, Closes, Finished}
 use Rattle.m3_pipe_laws.specs.Pipe.{Player, endpoint_in}
 use Rattle.m3_pipe_laws.specs.Ring.{place_of}
 use Rattle.m3_pipe_laws.proofs.Invariant.Sides.{Sides, has_one, SidesOk}
 use Rattle.m3_pipe_laws.proofs.Invariant.Flights.{lone_flying, flying_in, flying_of, LoneFlight, Queue, queue_of}
-use Rattle.m3_base.specs.Examples.Scripts.{id as flight_name}
 use Rattle.m3_pipe_laws.proofs.Invariant.WriterSide.{Busy, WriterCounts, count_with_chunk, WriteFlies, NoticeFlies, IsNotice, WriterFlies, RepliesOk, WriterSide}
 use Rattle.m3_pipe_laws.proofs.Invariant.ReaderSide.{ReaderSide, AreNotices, InboxOk, Due, fetched_count}
 use Rattle.m3_pipe_laws.proofs.Invariant.WholePipe.{RingSide, Marks, PipeAt}
-use Rattle.m3_pipe_laws.proofs.Others.Frames.{Kept, Steady, Side, side_put, side_same, steady_put, context_now, NotOwn, not_issuer, same_changed, same_ended, kept_same, queue_taken}
+use Rattle.m3_pipe_laws.proofs.Others.Frames.{Steady, side_put, side_same, steady_put, NotOwn, not_issuer, same_changed, kept_same, queue_taken, message_landed}
 use Rattle.m3_pipe_laws.proofs.Others.Sides.{reader_stays, reader_by}
 use Rattle.m3_pipe_laws.proofs.Ring.Delivery.{write_lands, notice_lands}
+use Rattle.m3_base.proofs.Activities.{act_found, context-put_same, context-put_other, same_act-is}
 
 -- the joined sides, for some marks
 pub record Joins (e : Sides) (s : State) (pw : Player WriterState) (pr : Player ReaderState) (last puts takes : List ℕ) : Type 0 where
@@ -171,10 +171,6 @@ module _ (e : Sides) (s : State) (ok : SidesOk e) (p : WriterState) (pr : Player
   name : flight_name e.w number ≡ message_id m
   name = name_found (flight_name e.w number) (Packet.Message e.r e.reader.recv e.inbox.grant m) s.flights find
 
-  -- the state after it, with this context and this answer
-  abbrev pub after : Context → Answer → State
-  after d answer = record s { contexts = put_context d s.contexts; flights = change_flight (Packet.Answer (message_id m) answer) s.flights }
-
   not_reader : (d : Context) (answer : Answer) → NotOwn e.r s (name_of (Packet.Answer (message_id m) answer))
   not_reader d answer = subst (NotOwn e.r s) name (not_issuer e.r s (flight_name e.w number) (λ q. ok.apart (sym q)))
 
@@ -182,16 +178,16 @@ module _ (e : Sides) (s : State) (ok : SidesOk e) (p : WriterState) (pr : Player
   found_after answer = changed_found e.w number (Packet.Message e.r e.reader.recv e.inbox.grant m) (Packet.Answer (message_id m) answer) s (sym name) find
 
   -- the writer's context stays
-  writer_context : (d : Context) (answer : Answer) → d.act ≡ c.act → context_of e.w (after d answer).contexts ≡ context_of e.w s.contexts
-  writer_context d answer q = Rattle.m3_pipe_laws.proofs.Others.Frames.flying_other e.w d s.contexts (by_bool (Rattle.m3_base.specs.Ideal.State.same_act e.w d.act) refl)
+  writer_context : (d : Context) (answer : Answer) → d.act ≡ c.act → context_of e.w (message_landed s m d answer).contexts ≡ context_of e.w s.contexts
+  writer_context d answer q = context-put_other e.w d s.contexts (by_bool (same_act e.w d.act) refl)
     where
-      by_bool : (b : Bool) → Rattle.m3_base.specs.Ideal.State.same_act e.w d.act ≡ b → b ≡ false
+      by_bool : (b : Bool) → same_act e.w d.act ≡ b → b ≡ false
       by_bool false w = refl
-      by_bool true w = absurd (ok.apart (Rattle.m3_laws.proofs.invariant.step.LookUps.same_act-is e.w d.act w ∙ (q ∙ sym is_act)))
+      by_bool true w = absurd (ok.apart (same_act-is e.w d.act w ∙ (q ∙ sym is_act)))
 
-  writer_after : (d : Context) (answer : Answer) (v : ℕ) (over : Bool) → d.act ≡ c.act → NoticeFlies e p x.l.written v x.put over (Packet.Answer (message_id m) answer) → WriterSide e (after d answer) (record { at = p; wants = None }) last x.l.written v x.put x.l.back x.l.replied over x.shut
+  writer_after : (d : Context) (answer : Answer) (v : ℕ) (over : Bool) → d.act ≡ c.act → NoticeFlies e p x.l.written v x.put over (Packet.Answer (message_id m) answer) → WriterSide e (message_landed s m d answer) (record { at = p; wants = None }) last x.l.written v x.put x.l.back x.l.replied over x.shut
   writer_after d answer v over q phase = record {
-    by = subst (WriterFlies e (after d answer) p x.l.written v x.put over last) (sym doing) (record {
+    by = subst (WriterFlies e (message_landed s m d answer) p x.l.written v x.put over last) (sym doing) (record {
       number = number;
       flying = ap flying_in (writer_context d answer q) ∙ fly;
       packet = Packet.Answer (message_id m) answer;
@@ -203,13 +199,13 @@ module _ (e : Sides) (s : State) (ok : SidesOk e) (p : WriterState) (pr : Player
     replies = subst (RepliesOk p x.l.replied x.shut) (ap (λ z. queue_of (endpoint_in e.writer.reply z)) (sym (writer_context d answer q))) h.writer.replies;
   }
 
-  pub notice_refused : (why : Refusal) → Joins e (after c (Answer.Refused why)) (record { at = p; wants = None }) pr last puts takes
+  pub notice_refused : (why : Refusal) → Joins e (message_landed s m c (Answer.Refused why)) (record { at = p; wants = None }) pr last puts takes
   notice_refused why = record {
     marks = x;
     joined = record {
       ring = h.ring;
       writer = writer_after c (Answer.Refused why) x.l.noticed x.over refl tt;
-      reader = reader_stays e s (after c (Answer.Refused why)) pr takes x.l.noticed x.l.read x.l.replied x.took x.over x.shut (side_put e.r e.reader.recv s (after c (Answer.Refused why)) c c refl (subst (λ z. context_of z s.contexts ≡ Some c) is_act at) (λ z. (refl, kept_same (endpoint c e.reader.recv))) (same_changed e.r s (Packet.Answer (message_id m) (Answer.Refused why)) (not_reader c (Answer.Refused why)))) h.reader;
+      reader = reader_stays e s (message_landed s m c (Answer.Refused why)) pr takes x.l.noticed x.l.read x.l.replied x.took x.over x.shut (side_put e.r e.reader.recv s (message_landed s m c (Answer.Refused why)) c c refl (subst (λ z. context_of z s.contexts ≡ Some c) is_act at) (λ z. (refl, kept_same (endpoint c e.reader.recv))) (same_changed e.r s (Packet.Answer (message_id m) (Answer.Refused why)) (not_reader c (Answer.Refused why)))) h.reader;
     };
   }
 
@@ -220,13 +216,13 @@ module _ (e : Sides) (s : State) (ok : SidesOk e) (p : WriterState) (pr : Player
   over_before = counts.over
 
   -- the reader's side with one more in its queue
-  reader_after : (v : ℕ) (over : Bool) → land_refusal e.inbox.grant m (endpoint c e.reader.recv) ≡ None → x.l.noticed ≤ v → v + one over ≡ x.l.noticed + 1 → ReaderSide e (after (after_message e.reader.recv m c) Answer.Sent) pr takes v x.l.read x.l.replied x.took over x.shut
+  reader_after : (v : ℕ) (over : Bool) → land_refusal e.inbox.grant m (endpoint c e.reader.recv) ≡ None → x.l.noticed ≤ v → v + one over ≡ x.l.noticed + 1 → ReaderSide e (message_landed s m (after_message e.reader.recv m c) Answer.Sent) pr takes v x.l.read x.l.replied x.took over x.shut
   reader_after v over lands least sum =
       let d = after_message e.reader.recv m c in
-      let n = after d Answer.Sent in
+      let n = message_landed s m d Answer.Sent in
       let there = landed_queue e.reader.recv e.inbox.grant m c lands in
       let found : context_of d.act s.contexts ≡ Some c = subst (λ z. context_of z s.contexts ≡ Some c) (is_act ∙ sym (taken_act e.reader.recv m c)) at in
-      let now : context_of e.r n.contexts ≡ Some d = subst (λ z. context_of z n.contexts ≡ Some d) (taken_act e.reader.recv m c ∙ sym is_act) (context_now c d s.contexts found) in
+      let now : context_of e.r n.contexts ≡ Some d = subst (λ z. context_of z n.contexts ≡ Some d) (taken_act e.reader.recv m c ∙ sym is_act) (context-put_same c d s.contexts found) in
       let steady : Steady e.r s n = steady_put e.r s n c d refl found (λ z. taken_flying e.reader.recv m c) (same_changed e.r s (Packet.Answer (message_id m) Answer.Sent) (not_reader d Answer.Sent)) in
       let old : InboxOk e pr.at x.l.noticed x.over (queue_of (endpoint c e.reader.recv)) = subst (InboxOk e pr.at x.l.noticed x.over) (ap (λ z. queue_of (endpoint_in e.reader.recv z)) at) h.reader.inbox in
       let old_some : InboxOk e pr.at x.l.noticed false (Some (record { unread = (there.0).unread; fetched = (there.0).fetched })) = subst (λ z. InboxOk e pr.at x.l.noticed z (Some (record { unread = (there.0).unread; fetched = (there.0).fetched }))) over_before (subst (InboxOk e pr.at x.l.noticed x.over) (ap queue_of there.1.0) old) in
@@ -240,13 +236,13 @@ module _ (e : Sides) (s : State) (ok : SidesOk e) (p : WriterState) (pr : Player
       not_over : x.over ≡ true → ⊥
       not_over z = let q : true ≡ false = sym z ∙ over_before in absurd (cc)
 
-  pub notice_landed : land_refusal e.inbox.grant m (endpoint c e.reader.recv) ≡ None → Joins e (after (after_message e.reader.recv m c) (landed_answer m)) (record { at = p; wants = None }) pr last puts takes
-  notice_landed lands = subst (λ z. Joins e (after (after_message e.reader.recv m c) z) (record { at = p; wants = None }) pr last puts takes) (sym is_sent) (by_more (has_one e p.sent) refl)
+  pub notice_landed : land_refusal e.inbox.grant m (endpoint c e.reader.recv) ≡ None → Joins e (message_landed s m (after_message e.reader.recv m c) (landed_answer m)) (record { at = p; wants = None }) pr last puts takes
+  notice_landed lands = subst (λ z. Joins e (message_landed s m (after_message e.reader.recv m c) z) (record { at = p; wants = None }) pr last puts takes) (sym is_sent) (by_more (has_one e p.sent) refl)
     where
       d : Context
       d = after_message e.reader.recv m c
 
-      by_more : (b : Bool) → has_one e p.sent ≡ b → Joins e (after d Answer.Sent) (record { at = p; wants = None }) pr last puts takes
+      by_more : (b : Bool) → has_one e p.sent ≡ b → Joins e (message_landed s m d Answer.Sent) (record { at = p; wants = None }) pr last puts takes
       by_more true w =
           let this : count_with_chunk e p ≡ p.sent + 1 = ap (λ z. p.sent + one z) w in
           let below : x.l.noticed < x.l.written = (let a = counts.written in let b = counts.noticed in omega (arith, this, a, b)) in

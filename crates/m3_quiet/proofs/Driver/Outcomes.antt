@@ -5,9 +5,8 @@ use Rattle.m3_base.specs.declared.command.Reply.{Reply}
 use Rattle.m3_base.specs.declared.message.Message.{Message}
 use Rattle.m3_base.specs.Ideal.Issue.{IssueOutcome, Gives, Flies}
 use Rattle.m3_base.specs.Ideal.Step.{Label, At_issue, Present, Landing, Refusing, Credits, Discards, Installs, Starts_closing, Closes_endpoint, Answers, Not_made, Makes, Revokes, Sends_close, Frees, Finishes}
-use Rattle.m3_base.specs.Journal.Entry.{said_of, shown_reply, shown_told, shown_message}
+use Rattle.m3_base.specs.Journal.Entry.{said_of, shown_reply, shown_told, shown_message, is_idle}
 use Rattle.m3_base.specs.Placement.Landing.{said_or_nothing}
-use Rattle.m3_quiet.specs.Descent.{is_idle}
 
 message_works : (t : ℕ) (m : Message) (b : Bool) → is_idle (shown_message t m b) ≡ false
 message_works t m true = refl

@@ -15,11 +15,11 @@ use Rattle.m3_base.specs.Lists.Keyed as keyed
 use Rattle.m3_base.specs.Ideal.Flights.{flight}
 use Rattle.m3_base.specs.Ideal.State.{State, context_of}
 use Rattle.m3_base.specs.Ideal.Step.{RunResult, ideal_run}
-use Rattle.m3_base.specs.Journal.Entry.{ran_to}
+use Rattle.m3_base.specs.Journal.Entry.{ran_to, is_idle}
 use Rattle.m3_base.specs.Placement.State.{Placement, PlacedActivity, LinkToken, Data, Save, Saved, Restore, Yield, Closed, actor, actor_act, with_link, current_of, home_in, is_current, with_token, join_ready, at_place, Resting, with_actor, is_placed, is_leaving, is_coming, is_resting}
 use Rattle.m3_base.specs.Placement.Landing.{PlacementResult, LandingResult, landing_result, landing_result_by, landing_steps, step_outcome, idle_outcome, push_closed}
 use Rattle.m3_base.specs.Placement.Routing.{Routed, target_of, route, actor_for}
-use Rattle.m3_base.specs.Placement.Take.{is_here, take, take_at_kernel, take_at_tile, take_data, land_here, with_restore, saved_in, done_by, routing_outcome, first_due, is_leaving_at, has_unread_at}
+use Rattle.m3_base.specs.Placement.Take.{bounced, is_here, take, take_at_kernel, take_at_tile, take_data, land_here, with_restore, saved_in, done_by, routing_outcome, first_due, is_leaving_at, has_unread_at}
 use Rattle.m3_base.specs.Placement.Tend.{tend, tend_front, after_tend, answer_routed}
 use Rattle.m3_base.specs.Placement.Order.{is_moving_at, close_least, order_by, route_new, switch, after_switch, placed_at, order}
 use Rattle.m3_base.specs.Placement.Step.{placement_step}
@@ -28,13 +28,12 @@ use Rattle.m3_base.specs.Placement.Command.{command_by}
 use Rattle.m3_base.specs.Ideal.State.{is_number}
 use Rattle.m3_base.specs.Ideal.State.{same_act}
 use Rattle.m3_base.specs.Placement.Driver.{can_tend, least_of, least_tend}
-use Rattle.m3_quiet.specs.Descent.{is_idle}
 use Rattle.m3_quiet.specs.Facts.{ActorsApart, Facts}
 use Rattle.m3_quiet.specs.Runs.{ChoicesAreNotIdle}
 use Rattle.m3_quiet.proofs.Events.Kinds.{found_act, found_itself}
-use Rattle.m3_quiet.proofs.Sums.Contexts.{act-is}
 use Rattle.m3_quiet.proofs.Driver.Outcomes.{said_works}
 use Rattle.m3_quiet.proofs.Driver.Choices.{Chosen, Take_of, Tend_of, Close_of, Order_of, Switch_of, Turn_of, chosen}
+use Rattle.std.proofs.lemmas.Bool.{eqb-true}
 
 -- an outcome that isn't idle, if there is one
 abbrev pub AllWork : Option PlacementResult → Type 0
@@ -67,12 +66,16 @@ land_works : (t : ℕ) (p : Placement) (o : Option LandingResult) → CameWorks 
 land_works t p None h = tt
 land_works t p (Some c) h = h
 
+bounce_works : (s : State) (p : Placement) (t : ℕ) (id : FlightId) (o : Option ℕ) → AllWork (bounced s p t id o)
+bounce_works s p t id None = tt
+bounce_works s p t id (Some a) = refl
+
 data_works : (s : State) (p : Placement) (t : ℕ) (id : FlightId) → AllWork (take_data s p t id)
 data_works s p t id = by_here ((t == 1) || is_here (target_of (flight id s.flights)) (current_of t p))
   where
-    by_here : (b : Bool) → AllWork (if b then land_here t p (landing_result s id) else step_outcome (Said.Bounced id) s (with_token t 0 (Data id) p))
+    by_here : (b : Bool) → AllWork (if b then land_here t p (landing_result s id) else bounced s p t id (target_of (flight id s.flights)))
     by_here true = land_works t p (landing_result s id) (came_works s id)
-    by_here false = refl
+    by_here false = bounce_works s p t id (target_of (flight id s.flights))
 
 tile_works : (s : State) (p : Placement) (t : ℕ) (k : LinkToken) → AllWork (take_at_tile s p t k)
 tile_works s p t (Data id) = data_works s p t id
@@ -134,7 +137,7 @@ least_found (x ∷ xs) a apart h = by_can (can_tend x) refl (least_tend xs) refl
     further b (y, f, can) = (y, by_act (b == x.act) refl, can)
       where
         by_act : (c : Bool) → (b == x.act) ≡ c → (if c then Some x else keyed.find actor_act same_act b xs) ≡ Some y
-        by_act true e = let none : keyed.find actor_act same_act b xs ≡ None = subst (λ k. keyed.find actor_act same_act k xs ≡ None) (sym (act-is b x.act e)) apart.0 in absurd (cc)
+        by_act true e = let none : keyed.find actor_act same_act b xs ≡ None = subst (λ k. keyed.find actor_act same_act k xs ≡ None) (sym (eqb-true b x.act e)) apart.0 in absurd (cc)
         by_act false e = f
 
     by_less : (b : ℕ) → Tendable xs b → can_tend x ≡ true → (c : Bool) → (if c then b else x.act) ≡ a → Tendable (x ∷ xs) a

@@ -18,7 +18,7 @@ use Rattle.m3_base.specs.Placement.State.{Placement, PlacedActivity, ready_at, L
 use Rattle.m3_base.specs.Placement.Landing.{PlacementResult, LandingResult, landing_result, step_outcome, idle_outcome}
 use Rattle.m3_base.specs.Placement.Order.{is_moving_at, least_closing, close_least, switch, order}
 use Rattle.m3_base.specs.Placement.Routing.{target_of}
-use Rattle.m3_base.specs.Placement.Take.{is_here, take, take_at_kernel, take_at_tile, land_here, saved_in, has_unread_at}
+use Rattle.m3_base.specs.Placement.Take.{bounced, is_here, take, take_at_kernel, take_at_tile, land_here, saved_in, has_unread_at}
 use Rattle.m3_base.specs.Placement.Tend.{tend, tend_front, after_tend}
 use Rattle.m3_base.specs.Placement.Turn.{turn_of, turn_made, turn_move, quantum_turn, await_turn, busy_any, is_waiting_turn, is_due_quantum, is_repeat}
 use Rattle.m3_base.specs.Placement.Command.{command_by}
@@ -104,12 +104,12 @@ module _ (s : State) (p : Placement) (us : Units) (left : List Order) (facts : F
           by_zero true z w = absurd (cc)
           by_zero false z w = w
 
-      by_here : (b c : Bool) → (to == 1) ≡ b → is_here (target_of (flight id s.flights)) (current_of to p) ≡ c → Falls s p us left (Event.Take to from) made (if b || c then land_here to (with_link from to ts p) (landing_result s id) else step_outcome (Said.Bounced id) s (with_token to 0 (Data id) (with_link from to ts p)))
+      by_here : (b c : Bool) → (to == 1) ≡ b → is_here (target_of (flight id s.flights)) (current_of to p) ≡ c → Falls s p us left (Event.Take to from) made (if b || c then land_here to (with_link from to ts p) (landing_result s id) else bounced s (with_link from to ts p) to id (target_of (flight id s.flights)))
       by_here true c f g = landed
       by_here false true f g = landed
       by_here false false f g = let w = as_take (by_from f g (from == 0) refl) in at_false (to == 1) (is_here (target_of (flight id s.flights)) (current_of to p)) f g w
         where
-          at_false : (b c : Bool) → b ≡ false → c ≡ false → Falls s p us left (Event.Take to from) made (if b || c then land_here to (with_link from to ts p) (landing_result s id) else step_outcome (Said.Bounced id) s (with_token to 0 (Data id) (with_link from to ts p))) → Falls s p us left (Event.Take to from) made (step_outcome (Said.Bounced id) s (with_token to 0 (Data id) (with_link from to ts p)))
+          at_false : (b c : Bool) → b ≡ false → c ≡ false → Falls s p us left (Event.Take to from) made (if b || c then land_here to (with_link from to ts p) (landing_result s id) else bounced s (with_link from to ts p) to id (target_of (flight id s.flights))) → Falls s p us left (Event.Take to from) made (bounced s (with_link from to ts p) to id (target_of (flight id s.flights)))
           at_false true c y z w = absurd (cc)
           at_false false true y z w = absurd (cc)
           at_false false false y z w = w

@@ -17,9 +17,10 @@ use Rattle.m3_quiet.specs.Potential.{Units, potential, packet_worth, link_worth,
 use Rattle.m3_quiet.specs.Facts.{ActorsApart, Fine, SavedOk}
 use Rattle.m3_quiet.proofs.Sums.Lighter.{links_lighter}
 use Rattle.m3_quiet.proofs.Events.Kinds.{found_itself}
-use Rattle.m3_quiet.proofs.Sums.Contexts.{six, act-is, actors_calm, actors_but, gains_six}
+use Rattle.m3_quiet.proofs.Sums.Contexts.{six, actors_calm, actors_but, gains_six}
 use Rattle.m3_quiet.proofs.Events.Deliveries.{Comes, Gone, Served, Joins, LandedOk, CameOk}
 use Rattle.m3_quiet.proofs.Sums.Whole.{pushed_potential, front_potential, actor_potential, joined_potential, closed_potential, fine-link, fine-pushed, fine-joined, fine-actor, Below, restored_below}
+use Rattle.std.proofs.lemmas.Bool.{eqb-true}
 
 -- ---- what an answer costs on a link
 
@@ -125,7 +126,7 @@ one_there s current t a (y ∷ ys) x apart e = by_act (a == y.act) refl e (one_t
   where
     by_act : (b : Bool) → (a == y.act) ≡ b → (if b then Some y else keyed.find actor_act same_act a ys) ≡ Some x → (keyed.find actor_act same_act a ys ≡ Some x → actors_sum s (set current t (Some a)) ys + actor_in s current x ≤ actors_sum s current ys + actor_in s (set current t (Some a)) x) → actors_sum s (set current t (Some a)) (y ∷ ys) + actor_in s current x ≤ actors_sum s current (y ∷ ys) + actor_in s (set current t (Some a)) x
     by_act true w f ih =
-        let none : keyed.find actor_act same_act a ys ≡ None = subst (λ k. keyed.find actor_act same_act k ys ≡ None) (sym (act-is a y.act w)) apart.0 in
+        let none : keyed.find actor_act same_act a ys ≡ None = subst (λ k. keyed.find actor_act same_act k ys ≡ None) (sym (eqb-true a y.act w)) apart.0 in
         let rest = others_there s current t a ys none in
         let same : y ≡ x = cc in
         subst (λ z. actors_sum s (set current t (Some a)) (y ∷ ys) + actor_in s current z ≤ actors_sum s current (y ∷ ys) + actor_in s (set current t (Some a)) z) same (omega (arith, rest))

@@ -14,7 +14,7 @@ use Rattle.m3_base.specs.Ideal.Flights.{flight, name_of}
 use Rattle.m3_base.specs.Ideal.Context.{Context}
 use Rattle.m3_base.specs.Ideal.Issue.{Issued, issue, next_id}
 use Rattle.m3_base.specs.Ideal.State.{State, context_of, put_context}
-use Rattle.m3_base.specs.Ideal.Step.{ideal_run, on_from, issue_in, issued_in, with_packet, has_unread}
+use Rattle.m3_base.specs.Ideal.Step.{ideal_run, on_from, issue_in, issued_in, with_packet, has_unread, after_issue}
 use Rattle.m3_base.specs.Placement.State.{Placement, PlacedActivity, Data, Yield, actor, with_token, with_actor, home}
 use Rattle.m3_base.specs.Placement.Landing.{PlacementResult}
 use Rattle.m3_base.specs.Placement.Routing.{tile_for, target}
@@ -38,21 +38,18 @@ pub record CallOk (s : State) (p : Placement) : Type 0 where
   pub holds : HoldsKnown s.flights p.actors
   pub fresh : (a : ℕ) (c : Context) → context_of a s.contexts ≡ Some c → flight (next_id c) s.flights ≡ None
 
-abbrev pub issued_state : State → Issued → State
-issued_state s i = record s { contexts = put_context i.context s.contexts; flights = with_packet i.packet s.flights }
-
 packet_less : (q : Option Packet) (id : FlightId) (s : State) → ((x : Packet) → q ≡ Some x → name_of x ≡ id) → flight id s.flights ≡ None → KnownLess (with_packet q s.flights) s.flights
 packet_less None id s named none = λ k known. omega arith
 packet_less (Some x) id s named none = new_less x s.flights (subst (λ k. flight k s.flights ≡ None) (sym (named x refl)) none)
 
 -- the command is issued, and its packet is nowhere yet
-issued_potential : (s : State) (p : Placement) (us : Units) (o a : ℕ) (c : Context) (i : Issued) → CallOk s p → context_of a s.contexts ≡ Some c → IssueOk c i → potential (issued_state s i) p us o ≤ potential s p us o
+issued_potential : (s : State) (p : Placement) (us : Units) (o a : ℕ) (c : Context) (i : Issued) → CallOk s p → context_of a s.contexts ≡ Some c → IssueOk c i → potential (after_issue s i) p us o ≤ potential s p us o
 issued_potential s p us o a c i ok found issued =
     let less : KnownLess (with_packet i.packet s.flights) s.flights = packet_less i.packet (next_id c) s issued.named (ok.fresh a c found) in
     let own : context_of i.context.act s.contexts ≡ Some c = subst (λ k. context_of k s.contexts ≡ Some c) (sym (issued.act ∙ context-act a s.contexts c found)) found in
     let calm : Fewer has_unread (put_context i.context s.contexts) s.contexts = fewer-put has_unread c i.context s.contexts own issued.calm in
     let one = links_known (with_packet i.packet s.flights) s.flights less p.links ok.links in
-    let two = actors_known s (issued_state s i) less calm p.current p.actors ok.holds in
+    let two = actors_known s (after_issue s i) less calm p.current p.actors ok.holds in
     omega (arith, one, two)
 
 -- a move more
@@ -79,7 +76,7 @@ command_below s p us o m x d ok here sum = by_context (context_of x.act s.contex
     by_issued c (Some i) e issued =
         let y = record x { moves = x.moves + 1 } in
         let q = with_actor y p in
-        let n = issued_state s i in
+        let n = after_issue s i in
         let id = next_id_of x.act (context_of x.act s.contexts) in
         let fine = fine-actor p y x here refl ok.fine in
         let one = issued_potential s p us o x.act c i ok e issued in

@@ -7,20 +7,21 @@ use Rattle.m3_base.specs.declared.packet.Packet.{Packet}
 use Rattle.m3_base.specs.declared.step.Step.{Step}
 use Rattle.m3_base.specs.Lists.Counting.{total}
 use Rattle.m3_base.specs.Ideal.Flights.{flight, name_of, same_name, end_flight}
-use Rattle.m3_base.specs.Ideal.Context.{Context, Endpoint, Free, endpoint, with_endpoint}
+use Rattle.m3_base.specs.Ideal.Context.{Context, Endpoint, Free, endpoint, with_endpoint, endpoint_at}
 use Rattle.m3_base.specs.Ideal.State.{State, Standing, Grant, context_of, put_context, grant_in, is_done, holder, holder_ep}
 use Rattle.m3_base.specs.Ideal.GrantRules.{change_grant, set_some}
-use Rattle.m3_base.specs.Ideal.Landing.{has_closing, flies_at, is_closing}
+use Rattle.m3_base.specs.Ideal.Landing.{has_closing, flies_at, is_closing, is_record_of}
 use Rattle.m3_base.specs.Ideal.Step.{Label, Frees, IdealResult, ideal_step, ideal_run, on_from, with_label, step_to, has_unread, closed_in, free_in}
 use Rattle.m3_base.specs.Placement.Landing.{LandingResult, landing_result, landing_result_by, landing_step, closing_steps, labels_in, name_if_some}
 use Rattle.m3_base.specs.Placement.Routing.{target_of}
 use Rattle.m3_base.proofs.FlightNames.{same_name-is}
 use Rattle.m3_base.specs.Ideal.FlightNames.{Distinct}
 use Rattle.m3_quiet.specs.Potential.{packet_worth, grant_worth}
-use Rattle.m3_quiet.specs.Facts.{ep_at, is_of, RecordsStand}
+use Rattle.m3_quiet.specs.Facts.{RecordsStand}
 use Rattle.m3_quiet.proofs.Sums.Lighter.{Lighter}
 use Rattle.m3_quiet.proofs.Events.Kinds.{set_worth, found_grant}
-use Rattle.m3_quiet.proofs.Sums.Contexts.{Fewer, FewerBut, FewerIn, fewer-put, fewer-set, act-is}
+use Rattle.m3_quiet.proofs.Sums.Contexts.{Fewer, FewerBut, FewerIn, fewer-put, fewer-set}
+use Rattle.std.proofs.lemmas.Bool.{eqb-true}
 
 -- ---- look-ups
 
@@ -37,7 +38,7 @@ context-act a [] x e = absurd (cc)
 context-act a (y ∷ cs) x e = by_act (a == y.act) refl e (context-act a cs x)
   where
     by_act : (b : Bool) → (a == y.act) ≡ b → (if b then Some y else context_of a cs) ≡ Some x → (context_of a cs ≡ Some x → x.act ≡ a) → x.act ≡ a
-    by_act true w f ih = let same : y ≡ x = cc in let k = act-is a y.act w in cc
+    by_act true w f ih = let same : y ≡ x = cc in let k = eqb-true a y.act w in cc
     by_act false w f ih = ih f
 
 -- ---- the end of a flight
@@ -127,7 +128,7 @@ comes_on s n m id e less (Joins x a b t c) = Joins x (subst (λ fs. packet_worth
 -- this state, where the records are those of s or fewer
 pub record Closable (s n : State) (id : FlightId) : Type 0 where
   pub ok : LandedOk s n id
-  pub records : (g : ℕ) → Fewer (is_of g) n.contexts s.contexts
+  pub records : (g : ℕ) → Fewer (is_record_of g) n.contexts s.contexts
   pub grants : n.grants ≡ s.grants
 
 abbrev pub freed_state : State → ℕ → ℕ → Context → State
@@ -135,7 +136,7 @@ freed_state n g ep c = record n { contexts = put_context (with_endpoint c ep Fre
 
 freed_ok : (s n : State) (id : FlightId) (g : ℕ) (x : Grant) (c : Context) → RecordsStand s → Closable s n id → grant_in n.grants g ≡ Some x → context_of (holder x.line) n.contexts ≡ Some c → has_closing g (endpoint c (holder_ep x.line)) ≡ true → LandedOk s (freed_state n g (holder_ep x.line) c) id
 freed_ok s n id g x c stand ok e found closing =
-    let here : is_of g (ep_at (context_of (holder x.line) n.contexts) (holder_ep x.line)) ≡ true = subst (λ o. is_of g (ep_at o (holder_ep x.line)) ≡ true) (sym found) (first_of_two (is_of g (endpoint c (holder_ep x.line))) (is_closing (endpoint c (holder_ep x.line))) closing) in
+    let here : is_record_of g (endpoint_at (context_of (holder x.line) n.contexts) (holder_ep x.line)) ≡ true = subst (λ o. is_record_of g (endpoint_at o (holder_ep x.line)) ≡ true) (sym found) (first_of_two (is_record_of g (endpoint c (holder_ep x.line))) (is_closing (endpoint c (holder_ep x.line))) closing) in
     let there = ok.records g (holder x.line) (holder_ep x.line) here in
     let undone : is_done x.standing ≡ false = stand (holder x.line) (holder_ep x.line) g x there (subst (λ gs. grant_in gs g ≡ Some x) ok.grants e) in
     let same = closed_sum n.grants g x e undone in

@@ -9,16 +9,16 @@ use Rattle.m3_base.specs.declared.order.GrantLine.{GrantLine}
 use Rattle.m3_base.specs.declared.event.No.{No}
 use Rattle.m3_base.specs.Lists.Counting.{total}
 use Rattle.m3_base.specs.Ideal.Flights.{flight, name_of, new_flight}
-use Rattle.m3_base.specs.Ideal.Context.{Context}
+use Rattle.m3_base.specs.Ideal.Context.{Context, endpoint_at}
 use Rattle.m3_base.specs.Ideal.State.{State, Grant, context_of, grant_in, holder, holder_ep, undone, parent_in, parent_of}
-use Rattle.m3_base.specs.Ideal.GrantRules.{kernel_id, close_sent, with_grant_made, new_grant, may_close, is_closing_grant, is_open_child, change_grant, set_some, make_refusal, form}
+use Rattle.m3_base.specs.Ideal.GrantRules.{kernel_id, close_sent, with_grant_made, new_grant, may_close, is_closing_grant, is_open_child, change_grant, set_some, make_refusal, form, to_sent}
 use Rattle.m3_base.specs.Ideal.Step.{Label, has_unread, Sends_close, Makes, Not_made, ideal_run, on_from, step_to, send_close_in, make_in, make_for}
 use Rattle.m3_base.specs.Journal.Entry.{ran_to}
 use Rattle.m3_base.specs.Placement.State.{Placement, actor}
 use Rattle.m3_base.specs.Placement.Routing.{actor_for, target_of, route}
 use Rattle.m3_base.specs.Placement.Order.{route_new, order_by}
 use Rattle.m3_quiet.specs.Potential.{Units, potential, packet_worth, grant_worth}
-use Rattle.m3_quiet.specs.Facts.{ep_at, Fine, LinksKnown, HoldsKnown}
+use Rattle.m3_quiet.specs.Facts.{Fine, LinksKnown, HoldsKnown}
 use Rattle.m3_quiet.proofs.Sums.Changes.{total-append}
 use Rattle.m3_quiet.proofs.Events.Kinds.{set_worth, found_grant}
 use Rattle.m3_quiet.proofs.Sums.Whole.{Below}
@@ -40,7 +40,7 @@ arises_potential s n p us o q ok name flights contexts =
     let none : flight (name_of q) s.flights ≡ None = subst (λ k. flight k s.flights ≡ None) (sym name) ok.fresh in
     let less : KnownLess n.flights s.flights = subst (λ fs. KnownLess fs s.flights) (sym flights) (new_less q s.flights none) in
     let one = links_known n.flights s.flights less p.links ok.links in
-    let two = actors_known s n less (λ a ep h. subst (λ cs. has_unread (ep_at (context_of a cs) ep) ≡ true) contexts h) p.current p.actors ok.holds in
+    let two = actors_known s n less (λ a ep h. subst (λ cs. has_unread (endpoint_at (context_of a cs) ep) ≡ true) contexts h) p.current p.actors ok.holds in
     omega (arith, one, two)
 
 arises_worth : (s n : State) (q : Packet) → flight (kernel_id s) s.flights ≡ None → name_of q ≡ kernel_id s → n.flights ≡ new_flight q s.flights → packet_worth (flight (kernel_id s) n.flights) ≤ packet_worth (Some q)
@@ -63,9 +63,6 @@ routed_below s n p us o m w true e ok h k = absurd (cc)
 routed_below s n p us o m w false e ok h k = let one = arises_routed s n p us o (target_of (flight (kernel_id s) n.flights)) ok h in omega (arith, one, k)
 
 -- ---- Close
-
-abbrev pub to_sent : Grant → Grant
-to_sent y = record y { close_sent = true }
 
 sent_worth : (x : Grant) (c : Bool) → (is_closing_grant x.standing && (not x.close_sent && c)) ≡ true → grant_worth (to_sent x) + 8 ≤ grant_worth x
 sent_worth x c h = grind (arith, nat_tests, h)

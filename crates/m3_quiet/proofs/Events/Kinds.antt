@@ -17,7 +17,7 @@ use Rattle.m3_base.specs.Journal.Entry.{said_of}
 use Rattle.m3_base.specs.Lists.Keyed as keyed
 use Rattle.m3_base.specs.Placement.State.{Placement, PlacedActivity, LinkToken, Data, Save, Saved, Closed, actor, actor_act, link, with_link, with_token, with_actor, with_current, current_of, is_placed, is_current, home, home_in, with_yielded}
 use Rattle.m3_base.specs.Placement.Landing.{PlacementResult, said_or_nothing, landing_result, step_outcome, idle_outcome}
-use Rattle.m3_base.specs.Placement.Take.{done_by, is_here, take, take_at_kernel, take_at_tile, land_here, by_route, is_waiting, has_unread_at, has_ended, routing_outcome}
+use Rattle.m3_base.specs.Placement.Take.{bounced, done_by, is_here, take, take_at_kernel, take_at_tile, land_here, by_route, is_waiting, has_unread_at, has_ended, routing_outcome}
 use Rattle.m3_base.specs.Placement.Routing.{actor_for, target_of, route, with_held}
 use Rattle.m3_base.specs.Placement.Turn.{turn_of, turn_made, turn_move, quantum_turn, await_turn, busy_any, is_waiting_turn, is_due_quantum, is_repeat, yield_once}
 use Rattle.m3_base.specs.Ideal.State.{is_number}
@@ -93,10 +93,11 @@ route_falls s p us left from id (Some a) (Some x) ts made ok places found e = by
     by_place true = take_said s p (with_token 0 x.home (Data id) (with_link from 0 ts p)) us left 0 from made (Said.Routed id) (routed_falls s p us (length left) from id x ts ok ((places.homes a x found).0) ((places.homes a x found).1) e)
     by_place false = take_said s p (with_held id x (with_link from 0 ts p)) us left 0 from made (Said.Held id a) (held_falls s p us (length left) from id x ts ok (found_itself p a x found) e)
 
-pub bounced_take : (s : State) (p : Placement) (us : Units) (left : List Order) (t from : ℕ) (id : FlightId) (ts : List LinkToken) (made : Option Made) (here first : Bool) (o : Option PlacementResult) → here ≡ false → first ≡ false → potential s (with_token t 0 (Data id) (with_link from t ts p)) us (length left) < potential s p us (length left) → Falls s p us left (Event.Take t from) made (if first || here then o else step_outcome (Said.Bounced id) s (with_token t 0 (Data id) (with_link from t ts p)))
-bounced_take s p us left t from id ts made true first o h g less = absurd (cc)
-bounced_take s p us left t from id ts made false true o h g less = absurd (cc)
-bounced_take s p us left t from id ts made false false o h g less = take_said s p (with_token t 0 (Data id) (with_link from t ts p)) us left t from made (Said.Bounced id) less
+pub bounced_take : (s : State) (p : Placement) (us : Units) (left : List Order) (t from : ℕ) (id : FlightId) (ts : List LinkToken) (made : Option Made) (here first : Bool) (o : Option PlacementResult) (aim : Option ℕ) → here ≡ false → first ≡ false → potential s (with_token t 0 (Data id) (with_link from t ts p)) us (length left) < potential s p us (length left) → Falls s p us left (Event.Take t from) made (if first || here then o else bounced s (with_link from t ts p) t id aim)
+bounced_take s p us left t from id ts made true first o aim h g less = absurd (cc)
+bounced_take s p us left t from id ts made false true o aim h g less = absurd (cc)
+bounced_take s p us left t from id ts made false false o None h g less = tt
+bounced_take s p us left t from id ts made false false o (Some a) h g less = take_said s p (with_token t 0 (Data id) (with_link from t ts p)) us left t from made (Said.Bounced id) less
 
 pub at_tile : (s : State) (p : Placement) (us : Units) (left : List Order) (to from : ℕ) (made : Option Made) (b : Bool) (x y : Option PlacementResult) → b ≡ false → Falls s p us left (Event.Take to from) made y → Falls s p us left (Event.Take to from) made (if b then x else y)
 at_tile s p us left to from made true x y e h = absurd (cc)
@@ -151,7 +152,7 @@ front_falls s p us left to from t ts made places (At_kernel_closed f g h sent) e
 front_falls s p us left to from t ts made places (At_tile_save d f a least h k) e =
     at_tile s p us left d f made (d == 0) (take_at_kernel s (with_link f d ts p) (Save a)) (take_at_tile s (with_link f d ts p) d (Save a)) (grind (arith, nat_tests)) (take_said s p (with_token d 0 (Saved a (is_waiting s (actor a p)) (has_ended (actor a p))) (with_current d None (with_link f d ts p))) us left d f made (Said.Saving a) (save_falls s p us (length left) d f a (is_waiting s (actor a p)) (has_ended (actor a p)) ts (record { links = places.links; from_in = k; to_in = h }) e))
 front_falls s p us left to from t ts made places (At_tile_bounced d f id least h one_least k away) e =
-    at_tile s p us left d f made (d == 0) (take_at_kernel s (with_link f d ts p) (Data id)) (take_at_tile s (with_link f d ts p) d (Data id)) (grind (arith, nat_tests)) (bounced_take s p us left d f id ts made (is_here (target_of (flight id s.flights)) (current_of d p)) (d == 1) (land_here d (with_link f d ts p) (landing_result s id)) away (grind (arith, nat_tests)) (bounce_falls s p us (length left) f d id ts (record { links = places.links; from_in = k; to_in = h }) one_least (omega arith) e))
+    at_tile s p us left d f made (d == 0) (take_at_kernel s (with_link f d ts p) (Data id)) (take_at_tile s (with_link f d ts p) d (Data id)) (grind (arith, nat_tests)) (bounced_take s p us left d f id ts made (is_here (target_of (flight id s.flights)) (current_of d p)) (d == 1) (land_here d (with_link f d ts p) (landing_result s id)) (target_of (flight id s.flights)) away (grind (arith, nat_tests)) (bounce_falls s p us (length left) f d id ts (record { links = places.links; from_in = k; to_in = h }) one_least (omega arith) e))
 
 -- ---- turns
 

@@ -8,20 +8,21 @@ use Rattle.m3_base.specs.declared.message.Message.{Message}
 use Rattle.m3_base.specs.declared.command.Answer.{Answer}
 use Rattle.m3_base.specs.declared.command.Refusal.{Refusal}
 use Rattle.m3_base.specs.declared.step.Step.{Step}
-use Rattle.m3_base.specs.Ideal.Flights.{flight, change_flight, end_flight}
+use Rattle.m3_base.specs.Ideal.Flights.{flight, change_flight}
 use Rattle.m3_base.specs.Ideal.Context.{Kind, Sending, Replying, Reading, Writing, Flying, Context, Endpoint, Free, Sends, Receives, Reaches, endpoint, with_endpoint, new_endpoint}
 use Rattle.m3_base.specs.Ideal.State.{State, context_of, put_context}
-use Rattle.m3_base.specs.Ideal.Landing.{land_by, land_refusal, after_message, with_message, with_credit, has_send, more_at, has_live, closed_at, flies_at, flying_at, context_after_answer, endpoint_after_answer, freed_grant, bytes_at, written_at, message_id, landed_answer}
-use Rattle.m3_base.specs.Ideal.Step.{Landing, Refusing, Credits, Discards, Installs, Starts_closing, Closes_endpoint, Answers, step_to, has_unread, land_in, message_in, landed_in, credit_in, install_in, close_in, answer_in, answered_in, settle_in, number_of}
+use Rattle.m3_base.specs.Ideal.Landing.{land_by, land_refusal, after_message, with_message, with_credit, has_send, more_at, has_live, closed_at, flies_at, flying_at, context_after_answer, endpoint_after_answer, freed_grant, bytes_at, written_at, message_id, landed_answer, is_record_of}
+use Rattle.m3_base.specs.Ideal.Step.{Landing, Refusing, Credits, Discards, Installs, Starts_closing, Closes_endpoint, Answers, step_to, has_unread, land_in, message_in, landed_in, credit_in, install_in, close_in, answer_in, answered_in, settle_in, number_of, after_ending}
 use Rattle.m3_base.specs.Placement.Landing.{landing_result, landing_step}
 use Rattle.m3_base.specs.Placement.Routing.{target_of}
 use Rattle.m3_base.specs.Ideal.FlightNames.{Distinct}
 use Rattle.m3_base.proofs.FlightNames.{ended}
 use Rattle.m3_quiet.specs.Potential.{packet_worth}
-use Rattle.m3_quiet.specs.Facts.{is_of, RecordsStand}
+use Rattle.m3_quiet.specs.Facts.{RecordsStand}
 use Rattle.m3_quiet.proofs.Sums.Lighter.{change_lighter, answered_worth}
 use Rattle.m3_quiet.proofs.Sums.Contexts.{FewerBut, FewerIn, fewer-put, fewer-put_but, fewer-set, fewer-credited}
 use Rattle.m3_quiet.proofs.Events.Deliveries.{flight-name, context-act, end_lighter, Gone, Served, Joins, LandedOk, AllCame, Closable, came_next, came_is, alone, and_closed}
+use Rattle.m3_base.proofs.Activities.{found_own}
 
 -- ---- endpoints
 
@@ -42,7 +43,7 @@ closed_unread (Sends r) h = h
 closed_unread (Receives r) h = h
 closed_unread (Reaches r) h = h
 
-closed_of : (g : ℕ) (e : Endpoint) → is_of g (closed_at e) ≡ true → is_of g e ≡ true
+closed_of : (g : ℕ) (e : Endpoint) → is_record_of g (closed_at e) ≡ true → is_record_of g e ≡ true
 closed_of g Free h = h
 closed_of g (Sends r) h = h
 closed_of g (Receives r) h = h
@@ -71,7 +72,7 @@ settled_unread Replying t (Answer.Bytes bs) e h = h
 settled_unread Reading t a e h = h
 settled_unread Writing t a e h = h
 
-pub settled_of : (g : ℕ) (k : Kind) (t : ℕ) (a : Answer) (e : Endpoint) → is_of g (endpoint_after_answer k t a e) ≡ true → is_of g e ≡ true
+pub settled_of : (g : ℕ) (k : Kind) (t : ℕ) (a : Answer) (e : Endpoint) → is_record_of g (endpoint_after_answer k t a e) ≡ true → is_record_of g e ≡ true
 settled_of g Sending t (Answer.Refused w) Free h = h
 settled_of g Sending t (Answer.Refused w) (Sends r) h = h
 settled_of g Sending t (Answer.Refused w) (Receives r) h = h
@@ -96,9 +97,6 @@ settled_of g Writing t a e h = h
 
 -- ---- contexts
 
-its_own : (a : ℕ) (x : Context) (cs : List Context) → context_of a cs ≡ Some x → context_of x.act cs ≡ Some x
-its_own a x cs e = subst (λ k. context_of k cs ≡ Some x) (sym (context-act a cs x e)) e
-
 credit_less : (f : Endpoint → Bool) → ((e : Endpoint) → f (more_at e) ≡ true → f e ≡ true) → (g : ℕ) (x : Context) → FewerIn f (with_credit g x) x
 credit_less f less g x ep h = fewer-credited f less g x.endpoints ep h
 
@@ -110,10 +108,7 @@ answered_less f less v a x ep h = fewer-set f x.endpoints v.ep ep (endpoint_afte
 
 -- ---- the end of a flight
 
-abbrev pub ended_state : State → FlightId → Context → State
-ended_state s id y = record s { contexts = put_context y s.contexts; flights = end_flight id s.flights }
-
-gone_ok : (s : State) (id : FlightId) (p : Packet) (x y : Context) → Distinct s.flights → flight id s.flights ≡ Some p → packet_worth (Some p) ≡ 6 → context_of y.act s.contexts ≡ Some x → FewerIn has_unread y x → LandedOk s (ended_state s id y) id
+gone_ok : (s : State) (id : FlightId) (p : Packet) (x y : Context) → Distinct s.flights → flight id s.flights ≡ Some p → packet_worth (Some p) ≡ 6 → context_of y.act s.contexts ≡ Some x → FewerIn has_unread y x → LandedOk s (after_ending s id y) id
 gone_ok s id p x y apart found six here less =
     let worth : packet_worth (flight id s.flights) ≡ 6 = ap packet_worth found ∙ six in
     record {
@@ -127,55 +122,55 @@ module _ (s : State) (id : FlightId) (apart : Distinct s.flights) (stand : Recor
   credit_case z to g found None e = tt
   credit_case z to g found (Some x) e = by_send (has_send g x)
     where
-      ok : LandedOk s (ended_state s id (with_credit g x)) id
-      ok = gone_ok s id (Packet.Credit z to g) x (with_credit g x) apart found refl (its_own to x s.contexts e) (credit_less has_unread more_unread g x)
+      ok : LandedOk s (after_ending s id (with_credit g x)) id
+      ok = gone_ok s id (Packet.Credit z to g) x (with_credit g x) apart found refl (found_own to x s.contexts e) (credit_less has_unread more_unread g x)
 
-      by_send : (b : Bool) → AllCame s id (came_next s id (Step.Land id) (step_to (if b then Credits id g else Discards id g) (ended_state s id (with_credit g x))))
-      by_send true = alone s (ended_state s id (with_credit g x)) id (Step.Land id) (Credits id g) ok
-      by_send false = alone s (ended_state s id (with_credit g x)) id (Step.Land id) (Discards id g) ok
+      by_send : (b : Bool) → AllCame s id (came_next s id (Step.Land id) (step_to (if b then Credits id g else Discards id g) (after_ending s id (with_credit g x))))
+      by_send true = alone s (after_ending s id (with_credit g x)) id (Step.Land id) (Credits id g) ok
+      by_send false = alone s (after_ending s id (with_credit g x)) id (Step.Land id) (Discards id g) ok
 
   install_case : (z : FlightId) (to ep : ℕ) (f : Fresh) → flight id s.flights ≡ Some (Packet.Install z to ep f) → (o : Option Context) → context_of to s.contexts ≡ o → AllCame s id (came_next s id (Step.Land id) (install_in s id ep f o))
   install_case z to ep f found None e = tt
   install_case z to ep f found (Some x) e =
-      alone s (ended_state s id (with_endpoint x ep (new_endpoint f))) id (Step.Land id) (Installs id (number_of f))
-      (gone_ok s id (Packet.Install z to ep f) x (with_endpoint x ep (new_endpoint f)) apart found refl (its_own to x s.contexts e) (set_less has_unread x ep (new_endpoint f) (λ h. absurd (install_unread f h))))
+      alone s (after_ending s id (with_endpoint x ep (new_endpoint f))) id (Step.Land id) (Installs id (number_of f))
+      (gone_ok s id (Packet.Install z to ep f) x (with_endpoint x ep (new_endpoint f)) apart found refl (found_own to x s.contexts e) (set_less has_unread x ep (new_endpoint f) (λ h. absurd (install_unread f h))))
 
   close_case : (z : FlightId) (to ep g : ℕ) → flight id s.flights ≡ Some (Packet.Close z to ep g) → (o : Option Context) → context_of to s.contexts ≡ o → AllCame s id (came_next s id (Step.Land id) (close_in s id ep g o))
   close_case z to ep g found None e = tt
   close_case z to ep g found (Some x) e = by_flags (has_live g (endpoint x ep)) (flies_at ep x)
     where
-      ok : LandedOk s (ended_state s id (with_endpoint x ep (closed_at (endpoint x ep)))) id
-      ok = gone_ok s id (Packet.Close z to ep g) x (with_endpoint x ep (closed_at (endpoint x ep))) apart found refl (its_own to x s.contexts e) (set_less has_unread x ep (closed_at (endpoint x ep)) (closed_unread (endpoint x ep)))
+      ok : LandedOk s (after_ending s id (with_endpoint x ep (closed_at (endpoint x ep)))) id
+      ok = gone_ok s id (Packet.Close z to ep g) x (with_endpoint x ep (closed_at (endpoint x ep))) apart found refl (found_own to x s.contexts e) (set_less has_unread x ep (closed_at (endpoint x ep)) (closed_unread (endpoint x ep)))
 
-      closable : Closable s (ended_state s id (with_endpoint x ep (closed_at (endpoint x ep)))) id
+      closable : Closable s (after_ending s id (with_endpoint x ep (closed_at (endpoint x ep)))) id
       closable = record {
         ok = ok;
-        records = λ h. fewer-put (is_of h) x (with_endpoint x ep (closed_at (endpoint x ep))) s.contexts (its_own to x s.contexts e) (set_less (is_of h) x ep (closed_at (endpoint x ep)) (closed_of h (endpoint x ep)));
+        records = λ h. fewer-put (is_record_of h) x (with_endpoint x ep (closed_at (endpoint x ep))) s.contexts (found_own to x s.contexts e) (set_less (is_record_of h) x ep (closed_at (endpoint x ep)) (closed_of h (endpoint x ep)));
         grants = refl;
       }
 
-      by_flags : (b c : Bool) → AllCame s id (came_next s id (Step.Land id) (if b then step_to (if c then Starts_closing id g else Closes_endpoint id g) (ended_state s id (with_endpoint x ep (closed_at (endpoint x ep)))) else None))
+      by_flags : (b c : Bool) → AllCame s id (came_next s id (Step.Land id) (if b then step_to (if c then Starts_closing id g else Closes_endpoint id g) (after_ending s id (with_endpoint x ep (closed_at (endpoint x ep)))) else None))
       by_flags false c = tt
-      by_flags true true = alone s (ended_state s id (with_endpoint x ep (closed_at (endpoint x ep)))) id (Step.Land id) (Starts_closing id g) ok
-      by_flags true false = and_closed s (ended_state s id (with_endpoint x ep (closed_at (endpoint x ep)))) id (Step.Land id) (Closes_endpoint id g) g stand closable
+      by_flags true true = alone s (after_ending s id (with_endpoint x ep (closed_at (endpoint x ep)))) id (Step.Land id) (Starts_closing id g) ok
+      by_flags true false = and_closed s (after_ending s id (with_endpoint x ep (closed_at (endpoint x ep)))) id (Step.Land id) (Closes_endpoint id g) g stand closable
 
   answer_case : (z : FlightId) (a : Answer) → flight id s.flights ≡ Some (Packet.Answer z a) → (o : Option Context) → context_of id.issuer s.contexts ≡ o → AllCame s id (came_next s id (Step.Answered id) (answer_in s id a o))
   answer_case z a found None e = tt
   answer_case z a found (Some x) e = by_flying (flying_at id.number x.flying)
     where
-      ok : (v : Flying) → LandedOk s (ended_state s id (context_after_answer v a x)) id
-      ok v = gone_ok s id (Packet.Answer z a) x (context_after_answer v a x) apart found refl (its_own id.issuer x s.contexts e) (answered_less has_unread settled_unread v a x)
+      ok : (v : Flying) → LandedOk s (after_ending s id (context_after_answer v a x)) id
+      ok v = gone_ok s id (Packet.Answer z a) x (context_after_answer v a x) apart found refl (found_own id.issuer x s.contexts e) (answered_less has_unread settled_unread v a x)
 
-      closable : (v : Flying) → Closable s (ended_state s id (context_after_answer v a x)) id
+      closable : (v : Flying) → Closable s (after_ending s id (context_after_answer v a x)) id
       closable v = record {
         ok = ok v;
-        records = λ h. fewer-put (is_of h) x (context_after_answer v a x) s.contexts (its_own id.issuer x s.contexts e) (answered_less (is_of h) (settled_of h) v a x);
+        records = λ h. fewer-put (is_record_of h) x (context_after_answer v a x) s.contexts (found_own id.issuer x s.contexts e) (answered_less (is_record_of h) (settled_of h) v a x);
         grants = refl;
       }
 
-      by_freed : (v : Flying) (o : Option ℕ) → AllCame s id (came_next s id (Step.Answered id) (step_to (Answers id a o) (ended_state s id (context_after_answer v a x))))
-      by_freed v None = alone s (ended_state s id (context_after_answer v a x)) id (Step.Answered id) (Answers id a None) (ok v)
-      by_freed v (Some g) = and_closed s (ended_state s id (context_after_answer v a x)) id (Step.Answered id) (Answers id a (Some g)) g stand (closable v)
+      by_freed : (v : Flying) (o : Option ℕ) → AllCame s id (came_next s id (Step.Answered id) (step_to (Answers id a o) (after_ending s id (context_after_answer v a x))))
+      by_freed v None = alone s (after_ending s id (context_after_answer v a x)) id (Step.Answered id) (Answers id a None) (ok v)
+      by_freed v (Some g) = and_closed s (after_ending s id (context_after_answer v a x)) id (Step.Answered id) (Answers id a (Some g)) g stand (closable v)
 
       by_flying : (o : Option Flying) → AllCame s id (came_next s id (Step.Answered id) (settle_in s id a x o))
       by_flying None = tt

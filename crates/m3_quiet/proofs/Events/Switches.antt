@@ -15,8 +15,8 @@ use Rattle.m3_base.specs.Ideal.State.{same_act}
 use Rattle.m3_quiet.specs.Potential.{Units, potential, actor_worth, actor_in, is_there, has_moved, ready_worth}
 use Rattle.m3_quiet.specs.Facts.{ActorsApart, Fine}
 use Rattle.m3_quiet.proofs.Events.Kinds.{found_act, found_itself}
-use Rattle.m3_quiet.proofs.Sums.Contexts.{act-is}
 use Rattle.m3_quiet.proofs.Sums.Whole.{pushed_potential, actor_potential, actor-with_other, fine-actor, Below}
+use Rattle.std.proofs.lemmas.Bool.{eqb-true}
 
 -- ---- the tile's Placed activity
 
@@ -33,7 +33,7 @@ placed_found t (x ∷ xs) y apart e = by_placed ((x.home == t) && is_placed x.pl
     by_placed false f ih = by_act (y.act == x.act) refl (ih f)
       where
         by_act : (b : Bool) → (y.act == x.act) ≡ b → keyed.find actor_act same_act y.act xs ≡ Some y → (if b then Some x else keyed.find actor_act same_act y.act xs) ≡ Some y
-        by_act true v g = let none : keyed.find actor_act same_act y.act xs ≡ None = subst (λ k. keyed.find actor_act same_act k xs ≡ None) (sym (act-is y.act x.act v)) apart.0 in absurd (cc)
+        by_act true v g = let none : keyed.find actor_act same_act y.act xs ≡ None = subst (λ k. keyed.find actor_act same_act k xs ≡ None) (sym (eqb-true y.act x.act v)) apart.0 in absurd (cc)
         by_act false v g = g
 
 pub placed_is : (t : ℕ) (xs : List PlacedActivity) (y : PlacedActivity) → placed_at t xs ≡ Some y → is_placed y.place ≡ true
@@ -49,7 +49,7 @@ placed_home t [] y e = absurd (cc)
 placed_home t (x ∷ xs) y e = by_placed (x.home == t) (is_placed x.place) refl e (placed_home t xs y)
   where
     by_placed : (c d : Bool) → (x.home == t) ≡ c → (if c && d then Some x else placed_at t xs) ≡ Some y → (placed_at t xs ≡ Some y → y.home ≡ t) → y.home ≡ t
-    by_placed true true g h ih = let its : x ≡ y = cc in subst (λ k. k.home ≡ t) its (act-is x.home t g)
+    by_placed true true g h ih = let its : x ≡ y = cc in subst (λ k. k.home ≡ t) its (eqb-true x.home t g)
     by_placed true false g h ih = ih h
     by_placed false d g h ih = ih h
 
@@ -109,7 +109,7 @@ switch_cost s p us o t k r x y ok least found away placed gains shrinks =
     apart_from : (b : Bool) → (x.act == y.act) ≡ b → actor y.act p ≡ Some y → b ≡ false
     apart_from false e here = refl
     apart_from true e here =
-        let its : actor x.act p ≡ Some y = subst (λ z. actor z p ≡ Some y) (sym (act-is x.act y.act e)) here in
+        let its : actor x.act p ≡ Some y = subst (λ z. actor z p ≡ Some y) (sym (eqb-true x.act y.act e)) here in
         let same : x ≡ y = cc in
         let is : is_placed y.place ≡ true = placed_is t p.actors y placed in
         let not_is : is_placed y.place ≡ false = subst (λ z. is_placed z.place ≡ false) same away in
@@ -135,7 +135,7 @@ script_below s p us o m t a ok sum (Some x) e = by_home (x.home == t) refl (is_p
     by_home true f true g d l = omega (arith, sum)
     by_home true f false g true l = omega (arith, sum)
     by_home true f false g false true = omega (arith, sum)
-    by_home true f false g false false = by_placed (act-is x.home t f) g (placed_at t p.actors) refl
+    by_home true f false g false false = by_placed (eqb-true x.home t f) g (placed_at t p.actors) refl
 
 -- ---- the driver's switch
 

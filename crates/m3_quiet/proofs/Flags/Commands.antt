@@ -22,10 +22,11 @@ use Rattle.m3_quiet.specs.Schedule.{link_at}
 use Rattle.m3_quiet.specs.Flags.{Flagged, has_saved}
 use Rattle.m3_quiet.proofs.Flags.Statements.{Parted, FlaggedAfter}
 use Rattle.m3_quiet.proofs.Events.Kinds.{found_act, found_itself}
-use Rattle.m3_quiet.proofs.Sums.Contexts.{act-is, context-put_other}
 use Rattle.m3_quiet.proofs.Events.Deliveries.{context-act}
 use Rattle.m3_quiet.proofs.Events.Issue.{AllIssued, issue_ok}
 use Rattle.m3_quiet.proofs.Flags.Changes.{f-pushed, f-actor, f-away, f-state, f-new}
+use Rattle.m3_base.proofs.Activities.{context-put_other}
+use Rattle.std.proofs.lemmas.Bool.{eqb-true}
 
 module _ (s : State) (p : Placement) (parted : Parted s p) (ok : Flagged s p) where
   -- ---- commands and turns
@@ -48,7 +49,7 @@ module _ (s : State) (p : Placement) (parted : Parted s p) (ok : Flagged s p) wh
         other : (b : ℕ) → i.context.act ≡ a → (k : ℕ) (y : PlacedActivity) → has_saved b (link_at k p) ≡ true → actor b p ≡ Some y → (d : Bool) → (b == i.context.act) ≡ d → d ≡ false
         other b mine k y h g false w = refl
         other b mine k y h g true w =
-            let same : b ≡ a = act-is b i.context.act w ∙ mine in
+            let same : b ≡ a = eqb-true b i.context.act w ∙ mine in
             absurd (silent k y (subst (λ z. has_saved z (link_at k p) ≡ true) same h) (subst (λ z. actor z p ≡ Some y) same g))
 
     run_state_ok : (c : Command) (o : Option Context) → context_of a s.contexts ≡ o → (q : RunResult) → on_from (ideal_run []) (issue_in s o c) ≡ Some q → Flagged q.state p

@@ -10,17 +10,18 @@ use Rattle.m3_base.specs.declared.command.Answer.{Answer}
 use Rattle.m3_base.specs.declared.command.Refusal.{Refusal}
 use Rattle.m3_base.specs.declared.step.Step.{Step}
 use Rattle.m3_base.specs.Ideal.Flights.{flight, name_of}
-use Rattle.m3_base.specs.Ideal.Context.{Flying, Context, Endpoint, Free, endpoint, with_endpoint, new_endpoint}
+use Rattle.m3_base.specs.Ideal.Context.{Flying, Context, Endpoint, Free, endpoint, with_endpoint, new_endpoint, endpoint_at}
 use Rattle.m3_base.specs.Ideal.State.{State, Grant, context_of, put_context, grant_in, holder, holder_ep}
-use Rattle.m3_base.specs.Ideal.Landing.{land_by, land_refusal, after_message, with_credit, has_send, has_live, has_closing, closed_at, flies_at, flying_at, context_after_answer, freed_grant, is_closing, grant_of, with_message}
+use Rattle.m3_base.specs.Ideal.Landing.{land_by, land_refusal, after_message, with_credit, has_send, has_live, has_closing, closed_at, flies_at, flying_at, context_after_answer, freed_grant, is_closing, grant_of, with_message, is_record_of}
 use Rattle.m3_base.specs.Ideal.State.{is_number}
-use Rattle.m3_base.specs.Ideal.Step.{Label, Credits, Discards, Starts_closing, Closes_endpoint, Answers, Frees, ideal_run, on_from, with_label, step_to, land_in, message_in, landed_in, credit_in, install_in, close_in, answer_in, answered_in, settle_in, closed_in, free_in}
+use Rattle.m3_base.specs.Ideal.Step.{Label, Credits, Discards, Starts_closing, Closes_endpoint, Answers, Frees, ideal_run, on_from, with_label, step_to, land_in, message_in, landed_in, credit_in, install_in, close_in, answer_in, answered_in, settle_in, closed_in, free_in, after_ending}
 use Rattle.m3_base.specs.Placement.Landing.{LandingResult, landing_result, landing_result_by, landing_step}
 use Rattle.m3_base.specs.Placement.Routing.{target_of}
-use Rattle.m3_quiet.specs.Facts.{ep_at, is_of, RecordsHeld}
-use Rattle.m3_quiet.proofs.Sums.Contexts.{act-is, context-put_other}
+use Rattle.m3_quiet.specs.Facts.{RecordsHeld}
 use Rattle.m3_quiet.proofs.Events.Deliveries.{flight-name, context-act, came_next, came_is, freed_state}
-use Rattle.m3_quiet.proofs.Events.Landings.{ended_state, answered_less, settled_of}
+use Rattle.m3_quiet.proofs.Events.Landings.{answered_less, settled_of}
+use Rattle.m3_base.proofs.Activities.{context-put_other}
+use Rattle.std.proofs.lemmas.Bool.{eqb-true}
 
 -- the contexts of all but the flight's target are the same
 abbrev pub Local : State → FlightId → State → Type 0
@@ -35,14 +36,14 @@ put_local s id y cs its a other = context-put_other a y cs (by_act (a == y.act) 
   where
     by_act : (b : Bool) → (a == y.act) ≡ b → b ≡ false
     by_act false e = refl
-    by_act true e = absurd (other (its ∙ ap Some (sym (act-is a y.act e))))
+    by_act true e = absurd (other (its ∙ ap Some (sym (eqb-true a y.act e))))
 
 module _ (s : State) (id : FlightId) (records : RecordsHeld s) where
-  ended_local : (a : ℕ) (y : Context) → target_of (flight id s.flights) ≡ Some a → y.act ≡ a → Local s id (ended_state s id y)
+  ended_local : (a : ℕ) (y : Context) → target_of (flight id s.flights) ≡ Some a → y.act ≡ a → Local s id (after_ending s id y)
   ended_local a y its mine = put_local s id y s.contexts (its ∙ ap Some (sym mine))
 
   -- the further step frees the target's endpoint
-  freed_local : (a : ℕ) (n : State) (first : Step) (w : Label) (g ep : ℕ) → target_of (flight id s.flights) ≡ Some a → is_of g (ep_at (context_of a s.contexts) ep) ≡ true → n.grants ≡ s.grants → Local s id n → AllLocal s id (landing_result_by s id (first ∷ Step.Closed g ∷ []) (with_label w (ideal_run (Step.Closed g ∷ []) n)))
+  freed_local : (a : ℕ) (n : State) (first : Step) (w : Label) (g ep : ℕ) → target_of (flight id s.flights) ≡ Some a → is_record_of g (endpoint_at (context_of a s.contexts) ep) ≡ true → n.grants ≡ s.grants → Local s id n → AllLocal s id (landing_result_by s id (first ∷ Step.Closed g ∷ []) (with_label w (ideal_run (Step.Closed g ∷ []) n)))
   freed_local a n first w g ep its has same local = by_grant (grant_in n.grants g) refl
     where
       by_flags : (x : Grant) (c : Context) (b : Bool) → grant_in n.grants g ≡ Some x → context_of (holder x.line) n.contexts ≡ Some c → AllLocal s id (landing_result_by s id (first ∷ Step.Closed g ∷ []) (with_label w (on_from (ideal_run []) (if b then step_to (Frees g) (freed_state n g (holder_ep x.line) c) else None))))
@@ -64,7 +65,7 @@ module _ (s : State) (id : FlightId) (records : RecordsHeld s) where
   credit_local to g its None e = tt
   credit_local to g its (Some x) e = by_send (has_send g x)
     where
-      by_send : (b : Bool) → AllLocal s id (came_next s id (Step.Land id) (step_to (if b then Credits id g else Discards id g) (ended_state s id (with_credit g x))))
+      by_send : (b : Bool) → AllLocal s id (came_next s id (Step.Land id) (step_to (if b then Credits id g else Discards id g) (after_ending s id (with_credit g x))))
       by_send true = ended_local to (with_credit g x) its (context-act to s.contexts x e)
       by_send false = ended_local to (with_credit g x) its (context-act to s.contexts x e)
 
@@ -76,33 +77,33 @@ module _ (s : State) (id : FlightId) (records : RecordsHeld s) where
   close_local to ep g its None e = tt
   close_local to ep g its (Some x) e = by_flags (has_live g (endpoint x ep)) (flies_at ep x) refl
     where
-      has : has_live g (endpoint x ep) ≡ true → is_of g (ep_at (context_of to s.contexts) ep) ≡ true
-      has h = subst (λ o. is_of g (ep_at o ep) ≡ true) (sym e) (first_of_two (is_of g (endpoint x ep)) (not (is_closing (endpoint x ep))) h)
+      has : has_live g (endpoint x ep) ≡ true → is_record_of g (endpoint_at (context_of to s.contexts) ep) ≡ true
+      has h = subst (λ o. is_record_of g (endpoint_at o ep) ≡ true) (sym e) (first_of_two (is_record_of g (endpoint x ep)) (not (is_closing (endpoint x ep))) h)
         where
           first_of_two : (a b : Bool) → (a && b) ≡ true → a ≡ true
           first_of_two true b w = refl
           first_of_two false b w = w
 
-      by_flags : (b c : Bool) → has_live g (endpoint x ep) ≡ b → AllLocal s id (came_next s id (Step.Land id) (if b then step_to (if c then Starts_closing id g else Closes_endpoint id g) (ended_state s id (with_endpoint x ep (closed_at (endpoint x ep)))) else None))
+      by_flags : (b c : Bool) → has_live g (endpoint x ep) ≡ b → AllLocal s id (came_next s id (Step.Land id) (if b then step_to (if c then Starts_closing id g else Closes_endpoint id g) (after_ending s id (with_endpoint x ep (closed_at (endpoint x ep)))) else None))
       by_flags false c h = tt
       by_flags true true h = ended_local to (with_endpoint x ep (closed_at (endpoint x ep))) its (context-act to s.contexts x e)
-      by_flags true false h = freed_local to (ended_state s id (with_endpoint x ep (closed_at (endpoint x ep)))) (Step.Land id) (Closes_endpoint id g) g ep its (has h) refl (ended_local to (with_endpoint x ep (closed_at (endpoint x ep))) its (context-act to s.contexts x e))
+      by_flags true false h = freed_local to (after_ending s id (with_endpoint x ep (closed_at (endpoint x ep)))) (Step.Land id) (Closes_endpoint id g) g ep its (has h) refl (ended_local to (with_endpoint x ep (closed_at (endpoint x ep))) its (context-act to s.contexts x e))
 
   answer_local : (a : Answer) → target_of (flight id s.flights) ≡ Some id.issuer → (o : Option Context) → context_of id.issuer s.contexts ≡ o → AllLocal s id (came_next s id (Step.Answered id) (answer_in s id a o))
   answer_local a its None e = tt
   answer_local a its (Some x) e = by_flying (flying_at id.number x.flying)
     where
-      freed_of : (g : ℕ) (d : Endpoint) (b : Bool) → (if b then grant_of d else None) ≡ Some g → is_of g d ≡ true
+      freed_of : (g : ℕ) (d : Endpoint) (b : Bool) → (if b then grant_of d else None) ≡ Some g → is_record_of g d ≡ true
       freed_of g d false h = absurd (cc)
       freed_of g d true h = subst (λ o. is_number g o ≡ true) (sym h) (grind (arith, nat_tests))
 
-      by_freed : (v : Flying) (o : Option ℕ) → freed_grant v.ep (context_after_answer v a x) ≡ o → AllLocal s id (came_next s id (Step.Answered id) (step_to (Answers id a o) (ended_state s id (context_after_answer v a x))))
+      by_freed : (v : Flying) (o : Option ℕ) → freed_grant v.ep (context_after_answer v a x) ≡ o → AllLocal s id (came_next s id (Step.Answered id) (step_to (Answers id a o) (after_ending s id (context_after_answer v a x))))
       by_freed v None h = ended_local id.issuer (context_after_answer v a x) its (context-act id.issuer s.contexts x e)
       by_freed v (Some g) h =
-          let now : is_of g (endpoint (context_after_answer v a x) v.ep) ≡ true = freed_of g (endpoint (context_after_answer v a x) v.ep) (is_closing (endpoint (context_after_answer v a x) v.ep) && not (flies_at v.ep (context_after_answer v a x))) h in
-          let was : is_of g (endpoint x v.ep) ≡ true = answered_less (is_of g) (settled_of g) v a x v.ep now in
-          let has : is_of g (ep_at (context_of id.issuer s.contexts) v.ep) ≡ true = subst (λ o. is_of g (ep_at o v.ep) ≡ true) (sym e) was in
-          freed_local id.issuer (ended_state s id (context_after_answer v a x)) (Step.Answered id) (Answers id a (Some g)) g v.ep its has refl (ended_local id.issuer (context_after_answer v a x) its (context-act id.issuer s.contexts x e))
+          let now : is_record_of g (endpoint (context_after_answer v a x) v.ep) ≡ true = freed_of g (endpoint (context_after_answer v a x) v.ep) (is_closing (endpoint (context_after_answer v a x) v.ep) && not (flies_at v.ep (context_after_answer v a x))) h in
+          let was : is_record_of g (endpoint x v.ep) ≡ true = answered_less (is_record_of g) (settled_of g) v a x v.ep now in
+          let has : is_record_of g (endpoint_at (context_of id.issuer s.contexts) v.ep) ≡ true = subst (λ o. is_record_of g (endpoint_at o v.ep) ≡ true) (sym e) was in
+          freed_local id.issuer (after_ending s id (context_after_answer v a x)) (Step.Answered id) (Answers id a (Some g)) g v.ep its has refl (ended_local id.issuer (context_after_answer v a x) its (context-act id.issuer s.contexts x e))
 
       by_flying : (o : Option Flying) → AllLocal s id (came_next s id (Step.Answered id) (settle_in s id a x o))
       by_flying None = tt

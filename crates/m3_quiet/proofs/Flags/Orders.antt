@@ -21,10 +21,10 @@ use Rattle.m3_base.specs.Placement.Landing.{step_outcome}
 use Rattle.m3_quiet.specs.Flags.{Flagged}
 use Rattle.m3_quiet.proofs.Flags.Statements.{Parted, FlaggedAfter}
 use Rattle.m3_quiet.proofs.Events.Kinds.{found_itself}
-use Rattle.m3_quiet.proofs.Sums.Contexts.{act-is}
 use Rattle.m3_quiet.proofs.Sums.Whole.{actor-with_other}
 use Rattle.m3_quiet.proofs.Events.Switches.{placed_found, placed_is}
 use Rattle.m3_quiet.proofs.Flags.Changes.{f-pushed, f-actor, f-for, f-contexts}
+use Rattle.std.proofs.lemmas.Bool.{eqb-true}
 
 module _ (s : State) (p : Placement) (parted : Parted s p) (ok : Flagged s p) where
   -- ---- the kernel's own steps
@@ -83,7 +83,7 @@ module _ (s : State) (p : Placement) (parted : Parted s p) (ok : Flagged s p) wh
       differ : (b : Bool) → (x.act == y.act) ≡ b → actor y.act p ≡ Some y → is_placed y.place ≡ true → b ≡ false
       differ false e here placed = refl
       differ true e here placed =
-          let its : actor x.act p ≡ Some y = subst (λ k. actor k p ≡ Some y) (sym (act-is x.act y.act e)) here in
+          let its : actor x.act p ≡ Some y = subst (λ k. actor k p ≡ Some y) (sym (eqb-true x.act y.act e)) here in
           let mine : actor x.act p ≡ Some x = found_itself p a x found in
           let same : x ≡ y = cc in
           let no_ : is_placed y.place ≡ false = subst (λ w. is_placed w.place ≡ false) same away in

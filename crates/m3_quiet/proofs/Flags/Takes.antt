@@ -13,7 +13,7 @@ use Rattle.m3_base.specs.Ideal.Step.{Finishes, RunResult, ideal_run, on_from, st
 use Rattle.m3_base.specs.Journal.Entry.{ran_to}
 use Rattle.m3_base.specs.Placement.State.{Placement, PlacedActivity, LinkToken, Data, Save, Saved, Restore, Yield, Closed, Resting, actor, link, with_link, with_token, with_actor, with_current, at_place, current_of, join_ready, is_placed, is_leaving, is_resting}
 use Rattle.m3_base.specs.Placement.Landing.{LandingResult, push_answer, push_closed, landing_result, step_outcome, idle_outcome}
-use Rattle.m3_base.specs.Placement.Take.{new_stay, is_here, take, take_at_kernel, take_at_tile, take_data, land_here, saved_in, done_by, is_waiting, has_ended}
+use Rattle.m3_base.specs.Placement.Take.{new_stay, bounced, is_here, take, take_at_kernel, take_at_tile, take_data, land_here, saved_in, done_by, is_waiting, has_ended}
 use Rattle.m3_base.specs.Placement.Routing.{target_of}
 use Rattle.m3_base.specs.Placement.Tend.{answer_routed, tend, tend_front, after_tend}
 use Rattle.m3_base.specs.Ideal.State.{is_number}
@@ -22,10 +22,10 @@ use Rattle.m3_quiet.specs.Schedule.{link_at}
 use Rattle.m3_quiet.specs.Flags.{FlagsAt, Flagged, has_saved}
 use Rattle.m3_quiet.proofs.Flags.Statements.{Parted, FlaggedAfter}
 use Rattle.m3_quiet.proofs.Events.Kinds.{found_act, found_itself}
-use Rattle.m3_quiet.proofs.Sums.Contexts.{act-is}
 use Rattle.m3_quiet.proofs.Sums.Whole.{fine-link, fine-actor, fine-joined, fine-closed}
 use Rattle.m3_quiet.proofs.Flags.Contexts.{AllLocal, came_local}
 use Rattle.m3_quiet.proofs.Flags.Changes.{f-front, f-pushed, f-actor, f-state, f-join, f-restored, f-for, f-answer, f-closed, f-answer_routed, fine-answer_routed, f-contexts}
+use Rattle.std.proofs.lemmas.Bool.{eqb-true}
 
 module _ (s : State) (p : Placement) (parted : Parted s p) (ok : Flagged s p) where
   -- ---- takes
@@ -43,7 +43,7 @@ module _ (s : State) (p : Placement) (parted : Parted s p) (ok : Flagged s p) wh
   -- data for tile 1 is for nobody, and other data lands at who is current
   at_one : (from t : ℕ) (id : FlightId) (ts : List LinkToken) → (t == 1) ≡ true → link from t p ≡ Data id ∷ ts → (k a : ℕ) (x : PlacedActivity) → has_saved a (link_at k p) ≡ true → actor a p ≡ Some x → target_of (flight id s.flights) ≡ Some a → ⊥
   at_one from t id ts one f k a x h g its =
-      let none : target_of (flight id s.flights) ≡ None = parted.memory from id ts (subst (λ d. link from d p ≡ Data id ∷ ts) (act-is t 1 one) f) in
+      let none : target_of (flight id s.flights) ≡ None = parted.memory from id ts (subst (λ d. link from d p ≡ Data id ∷ ts) (eqb-true t 1 one) f) in
       absurd (cc)
 
   at_current : (t : ℕ) (id : FlightId) → is_here (target_of (flight id s.flights)) (current_of t p) ≡ true → (k a : ℕ) (x : PlacedActivity) → has_saved a (link_at k p) ≡ true → actor a p ≡ Some x → target_of (flight id s.flights) ≡ Some a → ⊥
@@ -52,7 +52,7 @@ module _ (s : State) (p : Placement) (parted : Parted s p) (ok : Flagged s p) wh
       by_current : (o : Option ℕ) → current_of t p ≡ o → is_here (Some a) o ≡ true → ⊥
       by_current None e w = absurd (cc)
       by_current (Some b) e w =
-          let same : a ≡ b = act-is a b w in
+          let same : a ≡ b = eqb-true a b w in
           let now : current_of t p ≡ Some a = e ∙ ap Some (sym same) in
           let at : x.home ≡ t = parted.current t a x now g in
           let mine : x.act ≡ a = found_act a p.actors x g in
@@ -67,10 +67,14 @@ module _ (s : State) (p : Placement) (parted : Parted s p) (ok : Flagged s p) wh
       q_flags : Flagged s (with_link from t ts p)
       q_flags = f-front s p from t (Data id) ts ok f
 
-      by_here : (b : Bool) → (t == 1) ≡ b → (c : Bool) → is_here (target_of (flight id s.flights)) (current_of t p) ≡ c → FlaggedAfter (if b || c then land_here t (with_link from t ts p) (landing_result s id) else step_outcome (Said.Bounced id) s (with_token t 0 (Data id) (with_link from t ts p)))
+      by_here : (b : Bool) → (t == 1) ≡ b → (c : Bool) → is_here (target_of (flight id s.flights)) (current_of t p) ≡ c → FlaggedAfter (if b || c then land_here t (with_link from t ts p) (landing_result s id) else bounced s (with_link from t ts p) t id (target_of (flight id s.flights)))
       by_here true e c g = f-land from t id ts (landing_result s id) f (came_local s id parted.records) (at_one from t id ts e f)
       by_here false e true g = f-land from t id ts (landing_result s id) f (came_local s id parted.records) (at_current t id g)
-      by_here false e false g = f-pushed s (with_link from t ts p) t 0 (Data id) q_flags tt
+      by_here false e false g = by_aim (target_of (flight id s.flights))
+        where
+          by_aim : (o : Option ℕ) → FlaggedAfter (bounced s (with_link from t ts p) t id o)
+          by_aim None = tt
+          by_aim (Some a) = f-pushed s (with_link from t ts p) t 0 (Data id) q_flags tt
 
   f-save : (from t a : ℕ) (ts : List LinkToken) → link from t p ≡ Save a ∷ ts → (o : Option PlacedActivity) → actor a p ≡ o → Flagged s (with_token t 0 (Saved a (is_waiting s o) (has_ended o)) (with_current t None (with_link from t ts p)))
   f-save from t a ts f o e = f-pushed s (with_current t None (with_link from t ts p)) t 0 (Saved a (is_waiting s o) (has_ended o)) (f-front s p from t (Save a) ts ok f) (now o e, tt)
@@ -125,7 +129,7 @@ module _ (s : State) (p : Placement) (parted : Parted s p) (ok : Flagged s p) wh
   f-take to from (t ∷ ts) f = by_to (to == 0) refl
     where
       by_to : (b : Bool) → (to == 0) ≡ b → FlaggedAfter (if b then take_at_kernel s (with_link from to ts p) t else take_at_tile s (with_link from to ts p) to t)
-      by_to true e = let none : to ≡ 0 = act-is to 0 e in subst (λ d. FlaggedAfter (take_at_kernel s (with_link from d ts p) t)) (sym none) (f-at_kernel from t ts (subst (λ d. link from d p ≡ t ∷ ts) none f))
+      by_to true e = let none : to ≡ 0 = eqb-true to 0 e in subst (λ d. FlaggedAfter (take_at_kernel s (with_link from d ts p) t)) (sym none) (f-at_kernel from t ts (subst (λ d. link from d p ≡ t ∷ ts) none f))
       by_to false e = f-tile from to t ts f
 
   -- ---- tend

@@ -14,8 +14,8 @@ use Rattle.m3_quiet.specs.Facts.{Fine}
 use Rattle.m3_quiet.specs.Schedule.{has_yield, link_at, is_listed, IsHere, Scheduled}
 use Rattle.m3_quiet.proofs.Schedule.Statements.{ScheduledAfter}
 use Rattle.m3_quiet.proofs.Events.Kinds.{found_act}
-use Rattle.m3_quiet.proofs.Sums.Contexts.{act-is}
 use Rattle.m3_quiet.proofs.Sums.Whole.{actor-with_same, actor-with_other, fine-link, fine-pushed, fine-joined, fine-actor, find-among, due_coming}
+use Rattle.std.proofs.lemmas.Bool.{eqb-true}
 
 -- ---- look-ups
 
@@ -25,7 +25,7 @@ look {R = R} p x old a y found e mine other = by_act (a == x.act) refl
   where
     by_act : (b : Bool) → (a == x.act) ≡ b → R
     by_act true w =
-        let same : a ≡ x.act = act-is a x.act w in
+        let same : a ≡ x.act = eqb-true a x.act w in
         let here : actor a (with_actor x p) ≡ Some x = subst (λ k. actor k (with_actor x p) ≡ Some x) (sym same) (actor-with_same p x old found) in
         let its : x ≡ y = cc in
         mine same its
@@ -200,7 +200,7 @@ listed-joined {R = R} c a xs h old new = by_in (list_any (λ b. b == a) xs) h
 
     by_either : (b d : Bool) → is_listed c xs ≡ b → (a == c) ≡ d → (b || d) ≡ true → R
     by_either true d f g w = old f
-    by_either false true f g w = new (act-is a c g)
+    by_either false true f g w = new (eqb-true a c g)
     by_either false false f g w = absurd (cc)
 
     by_in : (b : Bool) → is_listed c (if b then xs else xs ++ a ∷ []) ≡ true → R
@@ -355,7 +355,7 @@ s-push_yield p from a x ok found here stays = record {
       where
         by_parts : (16 * from + 0) ≡ k → (b d : Bool) → has_yield c (link from 0 p) ≡ b → (a == c) ≡ d → (b || (d || false)) ≡ true → R
         by_parts same true d f g w = old (subst (λ i. has_yield c (link_at i p) ≡ true) same f)
-        by_parts same false true f g w = new (act-is a c g)
+        by_parts same false true f g w = new (eqb-true a c g)
         by_parts same false false f g w = absurd (cc)
 
 -- the stay's Yield, of an activity that is current

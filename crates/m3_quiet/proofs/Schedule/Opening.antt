@@ -11,8 +11,8 @@ use Rattle.m3_base.specs.Ideal.State.{same_act}
 use Rattle.m3_quiet.specs.Facts.{ActorsApart}
 use Rattle.m3_quiet.specs.Schedule.{has_yield, link_at, is_listed, Scheduled}
 use Rattle.m3_quiet.proofs.Schedule.Statements.{ScheduleOpens}
-use Rattle.m3_quiet.proofs.Sums.Contexts.{act-is}
 use Rattle.m3_quiet.proofs.Schedule.Changes.{list-set_or, listed-joined}
+use Rattle.std.proofs.lemmas.Bool.{eqb-true}
 
 -- who is in a ready list is there, and rests at that tile
 abbrev pub Rests : Placement → ℕ → ℕ → Type 0
@@ -56,7 +56,7 @@ find-last [] x apart = itself (x.act == x.act) (grind (arith, nat_tests))
 find-last (y ∷ xs) x apart = by_act (x.act == y.act) refl (find-last xs x apart.1)
   where
     by_act : (b : Bool) → (x.act == y.act) ≡ b → keyed.find actor_act same_act x.act (xs ++ x ∷ []) ≡ Some x → (if b then Some y else keyed.find actor_act same_act x.act (xs ++ x ∷ [])) ≡ Some x
-    by_act true e f = let none : keyed.find actor_act same_act x.act (xs ++ x ∷ []) ≡ None = subst (λ k. keyed.find actor_act same_act k (xs ++ x ∷ []) ≡ None) (sym (act-is x.act y.act e)) apart.0 in absurd (cc)
+    by_act true e f = let none : keyed.find actor_act same_act x.act (xs ++ x ∷ []) ≡ None = subst (λ k. keyed.find actor_act same_act k (xs ++ x ∷ []) ≡ None) (sym (eqb-true x.act y.act e)) apart.0 in absurd (cc)
     by_act false e f = f
 
 find-first : (a : ℕ) (xs ys : List PlacedActivity) → keyed.find actor_act same_act a (xs ++ ys) ≡ None → keyed.find actor_act same_act a xs ≡ None

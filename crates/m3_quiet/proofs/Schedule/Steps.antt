@@ -23,7 +23,7 @@ use Rattle.m3_base.specs.Placement.Landing.{LandingResult, push_answer, push_clo
 use Rattle.m3_base.specs.Placement.Routing.{Routed, target_of, target, with_held, route, actor_for, tile_for}
 use Rattle.m3_base.specs.Placement.Order.{is_moving_at, placed_at, least_closing, close_least, order_by, route_new, kernel_step, switch, after_switch, order}
 use Rattle.m3_base.specs.Placement.Turn.{yield_once, turn_of, turn_made, turn_move, quantum_turn, await_turn, busy_any, is_waiting_turn, is_due_quantum, is_repeat}
-use Rattle.m3_base.specs.Placement.Take.{new_stay, is_here, take, take_at_kernel, take_at_tile, take_data, land_here, saved_in, done_by, is_waiting, has_ended, has_unread_at}
+use Rattle.m3_base.specs.Placement.Take.{new_stay, bounced, is_here, take, take_at_kernel, take_at_tile, take_data, land_here, saved_in, done_by, is_waiting, has_ended, has_unread_at}
 use Rattle.m3_base.specs.Placement.Command.{push_new, next_id_of, command, command_by, busy_with}
 use Rattle.m3_base.specs.Placement.Tend.{answer_routed, tend, tend_front, after_tend}
 use Rattle.m3_base.specs.Ideal.State.{is_number}
@@ -31,10 +31,10 @@ use Rattle.m3_quiet.specs.Potential.{is_there}
 use Rattle.m3_quiet.specs.Schedule.{has_yield, link_at, IsHere, Scheduled}
 use Rattle.m3_quiet.proofs.Schedule.Statements.{Walked, ScheduledAfter, ScheduleStays}
 use Rattle.m3_quiet.proofs.Events.Kinds.{found_act, found_itself}
-use Rattle.m3_quiet.proofs.Sums.Contexts.{act-is}
 use Rattle.m3_quiet.proofs.Sums.Whole.{actor-with_same, actor-with_other}
 use Rattle.m3_quiet.proofs.Events.Switches.{placed_found, placed_is, placed_home}
 use Rattle.m3_quiet.proofs.Schedule.Changes.{list-set, s-front, s-pushed, s-soft, s-place, s-join, s-coming, s-restored, s-yield_once, s-taken, s-current}
+use Rattle.std.proofs.lemmas.Bool.{eqb-true}
 
 -- ---- routing
 
@@ -97,9 +97,13 @@ k-land t p (Some c) ok = k-closed (push_answer t c.answer p) t c.freed (k-answer
 k-data : (s : State) (p : Placement) (t : ℕ) (id : FlightId) → Scheduled p → ScheduledAfter (take_data s p t id)
 k-data s p t id ok = by_here ((t == 1) || is_here (target_of (flight id s.flights)) (current_of t p))
   where
-    by_here : (b : Bool) → ScheduledAfter (if b then land_here t p (landing_result s id) else step_outcome (Said.Bounced id) s (with_token t 0 (Data id) p))
+    by_here : (b : Bool) → ScheduledAfter (if b then land_here t p (landing_result s id) else bounced s p t id (target_of (flight id s.flights)))
     by_here true = k-land t p (landing_result s id) ok
-    by_here false = s-pushed p t 0 (Data id) ok refl
+    by_here false = by_aim (target_of (flight id s.flights))
+      where
+        by_aim : (o : Option ℕ) → ScheduledAfter (bounced s p t id o)
+        by_aim None = tt
+        by_aim (Some a) = s-pushed p t 0 (Data id) ok refl
 
 k-done : (s : State) (p : Placement) (o : Option RunResult) → Scheduled p → ScheduledAfter (done_by s p o)
 k-done s p None ok = tt
@@ -116,7 +120,7 @@ module _ (s : State) (p : Placement) (walked : Walked p) (ok : Scheduled p) wher
           let now : current_of t p ≡ Some a = walked.saves from t a ts f in
           let there_t : is_number y.act (current_of t p) ≡ true = subst (λ k. is_number y.act (current_of k p) ≡ true) at there in
           let same : (a == y.act) ≡ true = subst (λ o. is_number y.act o ≡ true) now there_t in
-          let mine : actor a p ≡ Some y = subst (λ k. actor k p ≡ Some y) (sym (act-is a y.act same)) (found_itself p b y found) in
+          let mine : actor a p ≡ Some y = subst (λ k. actor k p ≡ Some y) (sym (eqb-true a y.act same)) (found_itself p b y found) in
           let goes : is_leaving y.place ≡ true = walked.going from t a ts y f mine in
           let wrong : is_placed y.place ≡ false = grind (arith, nat_tests, goes) in
           absurd (cc)
@@ -206,7 +210,7 @@ module _ (s : State) (p : Placement) (walked : Walked p) (ok : Scheduled p) wher
   k-take to from (t ∷ ts) f = by_to (to == 0) refl
     where
       by_to : (b : Bool) → (to == 0) ≡ b → ScheduledAfter (if b then take_at_kernel s (with_link from to ts p) t else take_at_tile s (with_link from to ts p) to t)
-      by_to true e = let none : to ≡ 0 = act-is to 0 e in subst (λ d. ScheduledAfter (take_at_kernel s (with_link from d ts p) t)) (sym none) (k-at_kernel from t ts (subst (λ d. link from d p ≡ t ∷ ts) none f))
+      by_to true e = let none : to ≡ 0 = eqb-true to 0 e in subst (λ d. ScheduledAfter (take_at_kernel s (with_link from d ts p) t)) (sym none) (k-at_kernel from t ts (subst (λ d. link from d p ≡ t ∷ ts) none f))
       by_to false e = k-tile from to t ts f
 
   -- ---- tend
@@ -260,7 +264,7 @@ module _ (s : State) (p : Placement) (walked : Walked p) (ok : Scheduled p) wher
       differ : (b : Bool) → (x.act == y.act) ≡ b → actor y.act p ≡ Some y → is_placed y.place ≡ true → b ≡ false
       differ false e here placed = refl
       differ true e here placed =
-          let its : actor x.act p ≡ Some y = subst (λ k. actor k p ≡ Some y) (sym (act-is x.act y.act e)) here in
+          let its : actor x.act p ≡ Some y = subst (λ k. actor k p ≡ Some y) (sym (eqb-true x.act y.act e)) here in
           let mine : actor x.act p ≡ Some x = found_itself p a x found in
           let same : x ≡ y = cc in
           let no_ : is_placed y.place ≡ false = subst (λ w. is_placed w.place ≡ false) same away in
@@ -284,7 +288,7 @@ module _ (s : State) (p : Placement) (walked : Walked p) (ok : Scheduled p) wher
       by_flags true f true g d l = ok
       by_flags true f false g true l = ok
       by_flags true f false g false true = ok
-      by_flags true f false g false false = k-switched t a x e (act-is x.home t f) g (placed_at t p.actors) refl
+      by_flags true f false g false false = k-switched t a x e (eqb-true x.home t f) g (placed_at t p.actors) refl
 
   k-order : (o : Order) → ScheduledAfter (order s p o)
   k-order (Order.Switch t a) = k-switch t a (actor a p) refl

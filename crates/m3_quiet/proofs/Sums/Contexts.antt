@@ -3,59 +3,45 @@ use Rattle.std.proofs.Common.{◌≡◌, ℕ, zero, suc, ◌+◌, ◌≤◌, Boo
 use Rattle.std.specs.Prelude.{Option, if◌then◌else◌, ◌==◌, not, ◌&&◌, ◌||◌, is_some}
 use Rattle.std.proofs.lemmas.Bool.Decides.{nat_tests}
 use Rattle.m3_base.specs.Lists.Keyed as keyed
-use Rattle.m3_base.specs.Ideal.Context.{Context, Endpoint, Free, endpoint}
-use Rattle.m3_base.specs.Ideal.State.{State, context_of, put_context, act_of, same_act, act_before}
+use Rattle.m3_base.specs.Ideal.Context.{Context, Endpoint, Free, endpoint, endpoint_at}
+use Rattle.m3_base.specs.Ideal.State.{State, context_of, put_context, same_act}
 use Rattle.m3_base.specs.Ideal.Step.{has_unread}
 use Rattle.m3_base.specs.Placement.State.{PlacedActivity, actor_act, is_leaving}
 use Rattle.m3_base.specs.Placement.Take.{is_waiting, has_unread_at}
 use Rattle.m3_base.specs.Ideal.Landing.{endpoints_with_credit, sends_by, more_at}
-use Rattle.m3_base.proofs.KeyedList.{find-replaced_other, find-replaced_same}
 use Rattle.m3_quiet.specs.Potential.{hold_sum, is_running, has_moved, may_join, actor_worth, is_there, actors_sum}
-use Rattle.m3_quiet.specs.Facts.{ActorsApart, ep_at}
+use Rattle.m3_quiet.specs.Facts.{ActorsApart}
 use Rattle.m3_quiet.proofs.Sums.Lighter.{Lighter, hold_lighter}
+use Rattle.m3_base.proofs.Activities.{context-put_other, context-put_same}
+use Rattle.std.proofs.lemmas.Bool.{eqb-true}
 
 -- ---- what passes a test at an endpoint
 
 -- where an endpoint passes the test now, it did before
 abbrev pub Fewer : (Endpoint → Bool) → List Context → List Context → Type 0
-Fewer f ds cs = (a ep : ℕ) → f (ep_at (context_of a ds) ep) ≡ true → f (ep_at (context_of a cs) ep) ≡ true
+Fewer f ds cs = (a ep : ℕ) → f (endpoint_at (context_of a ds) ep) ≡ true → f (endpoint_at (context_of a cs) ep) ≡ true
 
 -- but at this activity
 abbrev pub FewerBut : ℕ → (Endpoint → Bool) → List Context → List Context → Type 0
-FewerBut b f ds cs = (a ep : ℕ) → (a == b) ≡ false → f (ep_at (context_of a ds) ep) ≡ true → f (ep_at (context_of a cs) ep) ≡ true
+FewerBut b f ds cs = (a ep : ℕ) → (a == b) ≡ false → f (endpoint_at (context_of a ds) ep) ≡ true → f (endpoint_at (context_of a cs) ep) ≡ true
 
 -- one context in place of another
 abbrev pub FewerIn : (Endpoint → Bool) → Context → Context → Type 0
 FewerIn f y x = (ep : ℕ) → f (endpoint y ep) ≡ true → f (endpoint x ep) ≡ true
 
-acts_join : (a b c : ℕ) → same_act a c ≡ true → same_act b c ≡ true → same_act a b ≡ true
-acts_join a b c h k = grind (arith, nat_tests, h, k)
-
-act_itself : (a : ℕ) → same_act a a ≡ true
-act_itself a = grind (arith, nat_tests)
-
-pub context-put_other : (a : ℕ) (y : Context) (cs : List Context) → (a == y.act) ≡ false → context_of a (put_context y cs) ≡ context_of a cs
-context-put_other a y cs h = find-replaced_other act_of same_act act_before a y cs acts_join h
-
-pub context-put_same : (x y : Context) (cs : List Context) → context_of y.act cs ≡ Some x → context_of y.act (put_context y cs) ≡ Some y
-context-put_same x y cs h = find-replaced_same act_of same_act act_before y x cs (act_itself y.act) h
-
-pub act-is : (a b : ℕ) → (a == b) ≡ true → a ≡ b
-act-is a b h = grind (arith, nat_tests, h)
-
 pub fewer-put : (f : Endpoint → Bool) (x y : Context) (cs : List Context) → context_of y.act cs ≡ Some x → FewerIn f y x → Fewer f (put_context y cs) cs
 fewer-put f x y cs found less a ep h = by_act (a == y.act) refl
   where
-    by_act : (b : Bool) → (a == y.act) ≡ b → f (ep_at (context_of a cs) ep) ≡ true
+    by_act : (b : Bool) → (a == y.act) ≡ b → f (endpoint_at (context_of a cs) ep) ≡ true
     by_act true e =
-        let same : y.act ≡ a = sym (act-is a y.act e) in
+        let same : y.act ≡ a = sym (eqb-true a y.act e) in
         let now : context_of a (put_context y cs) ≡ Some y = subst (λ k. context_of k (put_context y cs) ≡ Some y) same (context-put_same x y cs found) in
         let then' : context_of a cs ≡ Some x = subst (λ k. context_of k cs ≡ Some x) same found in
-        subst (λ o. f (ep_at o ep) ≡ true) (sym then') (less ep (subst (λ o. f (ep_at o ep) ≡ true) now h))
-    by_act false e = subst (λ o. f (ep_at o ep) ≡ true) (context-put_other a y cs e) h
+        subst (λ o. f (endpoint_at o ep) ≡ true) (sym then') (less ep (subst (λ o. f (endpoint_at o ep) ≡ true) now h))
+    by_act false e = subst (λ o. f (endpoint_at o ep) ≡ true) (context-put_other a y cs e) h
 
 pub fewer-put_but : (f : Endpoint → Bool) (y : Context) (cs : List Context) → FewerBut y.act f (put_context y cs) cs
-fewer-put_but f y cs a ep other h = subst (λ o. f (ep_at o ep) ≡ true) (context-put_other a y cs other) h
+fewer-put_but f y cs a ep other h = subst (λ o. f (endpoint_at o ep) ≡ true) (context-put_other a y cs other) h
 
 -- another record at one endpoint
 pub fewer-set : (f : Endpoint → Bool) (es : List Endpoint) (i k : ℕ) (e : Endpoint) → (f e ≡ true → f (get_or es i Free) ≡ true) → f (get_or (set es i e) k Free) ≡ true → f (get_or es k Free) ≡ true
@@ -96,9 +82,9 @@ still_waits true false false h w = w
 
 -- the unread messages of one activity: none that wasn't there
 abbrev pub CalmAt : ℕ → List Context → List Context → Type 0
-CalmAt a ds cs = (ep : ℕ) → has_unread (ep_at (context_of a ds) ep) ≡ true → has_unread (ep_at (context_of a cs) ep) ≡ true
+CalmAt a ds cs = (ep : ℕ) → has_unread (endpoint_at (context_of a ds) ep) ≡ true → has_unread (endpoint_at (context_of a cs) ep) ≡ true
 
-unread_some : (o : Option Context) (ep : ℕ) → has_unread_at o (Some ep) ≡ has_unread (ep_at o ep)
+unread_some : (o : Option Context) (ep : ℕ) → has_unread_at o (Some ep) ≡ has_unread (endpoint_at o ep)
 unread_some None ep = refl
 unread_some (Some c) ep = refl
 
@@ -152,7 +138,7 @@ actors_but s n a k light calm current (x ∷ xs) apart gains = by_act (a == x.ac
   where
     by_act : (b : Bool) → (a == x.act) ≡ b → ((y : PlacedActivity) → (if b then Some x else keyed.find actor_act same_act a xs) ≡ Some y → six (may_join n (is_there current y) y) ≤ six (may_join s (is_there current y) y) + k) → (Gains s n a k current xs → actors_sum n current xs ≤ actors_sum s current xs + k) → actors_sum n current (x ∷ xs) ≤ actors_sum s current (x ∷ xs) + k
     by_act true e g ih =
-        let same : x.act ≡ a = sym (act-is a x.act e) in
+        let same : x.act ≡ a = sym (eqb-true a x.act e) in
         let none : keyed.find actor_act same_act a xs ≡ None = subst (λ z. keyed.find actor_act same_act z xs ≡ None) same apart.0 in
         let one_up = actor_calm s n light k (is_there current x) x (g x refl) in
         let rest = actors_without s n a light calm current xs none in

@@ -15,7 +15,8 @@ use Rattle.m3_quiet.specs.Potential.{Units, potential, token_worth, actor_in, ac
 use Rattle.m3_quiet.specs.Facts.{ActorsApart, Fine}
 use Rattle.m3_quiet.proofs.Sums.Changes.{links-pushed, links-front, links-length, actors-with}
 use Rattle.m3_quiet.proofs.Sums.Opening.{joins_length, ready_set}
-use Rattle.m3_quiet.proofs.Sums.Contexts.{six, act-is}
+use Rattle.m3_quiet.proofs.Sums.Contexts.{six}
+use Rattle.std.proofs.lemmas.Bool.{eqb-true}
 
 -- ---- the sum
 
@@ -61,7 +62,7 @@ apart-replaced x [] h = tt
 apart-replaced x (y ∷ ys) h = by_act (x.act == y.act) refl (apart-replaced x ys h.1)
   where
     by_act : (b : Bool) → (x.act == y.act) ≡ b → ActorsApart (keyed.with_replaced actor_act same_act x ys) → ActorsApart (if b then x ∷ ys else y ∷ keyed.with_replaced actor_act same_act x ys)
-    by_act true e ih = (subst (λ k. keyed.find actor_act same_act k ys ≡ None) (sym (act-is x.act y.act e)) h.0, h.1)
+    by_act true e ih = (subst (λ k. keyed.find actor_act same_act k ys ≡ None) (sym (eqb-true x.act y.act e)) h.0, h.1)
     by_act false e ih = (none-replaced y.act x ys h.0, ih)
 
 -- a look-up after one activity changed
@@ -85,7 +86,7 @@ fine-actor p x old e same ok = record { links = ok.links; homes = homes; apart =
       where
         by_act : (b : Bool) → (a == x.act) ≡ b → (2 ≤ y.home) × (y.home < 16)
         by_act true w =
-            let here : actor a (with_actor x p) ≡ Some x = subst (λ k. actor k (with_actor x p) ≡ Some x) (sym (act-is a x.act w)) (actor-with_same p x old e) in
+            let here : actor a (with_actor x p) ≡ Some x = subst (λ k. actor k (with_actor x p) ≡ Some x) (sym (eqb-true a x.act w)) (actor-with_same p x old e) in
             let its : x ≡ y = cc in
             let h = ok.homes x.act old e in
             subst (λ z. (2 ≤ z.home) × (z.home < 16)) its (subst (λ k. (2 ≤ k) × (k < 16)) (sym same) h)
@@ -106,7 +107,7 @@ find-among t (x ∷ xs) y apart e = by_due (is_due t x) refl e (find-among t xs 
     by_due false w f ih = by_act (y.act == x.act) refl (ih f)
       where
         by_act : (b : Bool) → (y.act == x.act) ≡ b → keyed.find actor_act same_act y.act xs ≡ Some y → (if b then Some x else keyed.find actor_act same_act y.act xs) ≡ Some y
-        by_act true v g = let none : keyed.find actor_act same_act y.act xs ≡ None = subst (λ k. keyed.find actor_act same_act k xs ≡ None) (sym (act-is y.act x.act v)) apart.0 in absurd (cc)
+        by_act true v g = let none : keyed.find actor_act same_act y.act xs ≡ None = subst (λ k. keyed.find actor_act same_act k xs ≡ None) (sym (eqb-true y.act x.act v)) apart.0 in absurd (cc)
         by_act false v g = g
 
 pub due_coming : (t : ℕ) (xs : List PlacedActivity) (y : PlacedActivity) → first_due t xs ≡ Some y → is_coming y.place ≡ true

@@ -7,12 +7,12 @@ use Rattle.m3_base.specs.Lists.Counting.{one, how_many}
 use Rattle.m3_base.specs.declared.packet.Packet.{Packet}
 use Rattle.m3_base.specs.declared.command.Answer.{Answer}
 use Rattle.m3_base.specs.Ideal.Context.{Kind, Sending, Replying, Reading, Writing, Flying, Fetched, Endpoint, Free, Sends, Receives, Reaches, Context, endpoint}
-use Rattle.m3_base.specs.Ideal.ReceiveRecord.{fetched_at, without_token, with_mark, with_mark_at}
+use Rattle.m3_base.specs.Ideal.ReceiveRecord.{fetched_at, without_token, with_mark, with_mark_at, has_mark}
 use Rattle.m3_base.specs.Ideal.Landing.{flying_at, without_flying, context_after_answer, endpoint_after_answer, one_more}
 use Rattle.m3_base.specs.Ideal.Acceptance.{is_answer_for}
 use Rattle.m3_base.specs.Ideal.Flights.{flight}
 use Rattle.m3_laws.specs.WellFormed.{is_replying}
-use Rattle.m3_laws.specs.CommandFlights.{fetched_in, IsFlightOf, HasFlight, AllFly, has_mark, replies_to, TokensAscend, ContextInOrder}
+use Rattle.m3_laws.specs.CommandFlights.{fetched_in, IsFlightOf, HasFlight, AllFly, replies_to, TokensAscend, ContextInOrder}
 use Rattle.m3_laws.proofs.credits.Issue.{in_range}
 use Rattle.m3_laws.proofs.invariant.step.CommandRecordsStay.{fetched_at-without, fetched_at-mark}
 use Rattle.m3_laws.proofs.invariant.commands.ListChanges.{tokens-without, tokens-mark, fetched_at-gone, message_at-mark, marked-mark, numbers-without, flying_at-gone, flying_at-without, flying_number, how_many-without_flying, two_flying}

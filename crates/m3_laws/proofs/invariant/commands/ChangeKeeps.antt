@@ -11,11 +11,11 @@ use Rattle.m3_base.specs.declared.packet.Packet.{Packet}
 use Rattle.m3_base.specs.declared.packet.Perm.{Perm}
 use Rattle.m3_base.specs.Ideal.Flights.{flight}
 use Rattle.m3_base.specs.Ideal.Context.{Kind, Sending, Replying, Reading, Writing, Flying, Fetched, ReceiveRecord, Endpoint, Free, Sends, Receives, Reaches, Context, endpoint, with_endpoint, new_endpoint}
-use Rattle.m3_base.specs.Ideal.ReceiveRecord.{fetched_at, without_token, with_fetched, without_fetched}
+use Rattle.m3_base.specs.Ideal.ReceiveRecord.{fetched_at, without_token, with_fetched, without_fetched, has_mark}
 use Rattle.m3_base.specs.Ideal.Landing.{flying_at, with_message, more_at, endpoints_with_credit, sends_by, with_credit, after_message, closed_at, flies_at, is_command_at, one_more}
 use Rattle.m3_laws.specs.GrantInvariant.{form_of}
 use Rattle.m3_laws.specs.WellFormed.{is_replying}
-use Rattle.m3_laws.specs.CommandFlights.{IsSentBy, IsReplyTo, IsInRange, fetched_in, message_of, IsFlightOf, HasFlight, AllFly, has_mark, replies_to, Ascends, number_in, token_of, TokensAscend, ContextInOrder}
+use Rattle.m3_laws.specs.CommandFlights.{IsSentBy, IsReplyTo, IsInRange, fetched_in, message_of, IsFlightOf, HasFlight, AllFly, replies_to, Ascends, number_in, token_of, TokensAscend, ContextInOrder}
 use Rattle.m3_laws.proofs.invariant.step.CommandRecordsStay.{fetched_at-without}
 use Rattle.m3_laws.proofs.credits.Counting.{at_set}
 use Rattle.m3_laws.proofs.invariant.wellformed.OrdersKeep.{none_uses}

@@ -14,7 +14,7 @@ use Rattle.m3_base.specs.declared.command.Command.{Command}
 use Rattle.m3_base.specs.declared.command.Refusal.{Refusal}
 use Rattle.m3_base.specs.Ideal.Flights.{flight, name_of, same_name, new_flight}
 use Rattle.m3_base.specs.Ideal.Context.{Kind, Sending, Replying, Reading, Writing, Flying, Fetched, SendRecord, ReceiveRecord, MemoryRecord, Endpoint, Free, Sends, Receives, Reaches, Context, endpoint, with_endpoint}
-use Rattle.m3_base.specs.Ideal.ReceiveRecord.{fetched_at, unmarked_message, with_mark, with_fetched, without_fetched, with_mark_at}
+use Rattle.m3_base.specs.Ideal.ReceiveRecord.{fetched_at, unmarked_message, with_mark, with_fetched, without_fetched, with_mark_at, has_mark}
 use Rattle.m3_base.specs.Ideal.Issue.{IssueOutcome, Issued, less_one, send, send_refusal, send_packet, reply, reply_to, reply_refusal, reply_packet, no_endpoint, fetch, fetch_from, acknowledge, acknowledge_at, after_acknowledge, credit_packet, read, write, access, access_refusal, may_read, may_write, unless_refusal, first_of, with_flying_command, next_id, issue, is_busy}
 use Rattle.m3_base.specs.Ideal.Landing.{flying_at}
 use Rattle.m3_base.specs.Ideal.Step.{with_packet}
@@ -23,13 +23,14 @@ use Rattle.m3_base.specs.Ideal.FlightNames.{Apart}
 use Rattle.m3_base.proofs.FlightNames.{same_name-is, flight-new}
 use Rattle.m3_base.proofs.FlightOrder.{find-new}
 use Rattle.m3_laws.specs.WellFormed.{is_replying}
-use Rattle.m3_laws.specs.CommandFlights.{SentThrough, IsReplyTo, AreZeros, fetched_in, message_of, IsFlightOf, HasFlight, AllFly, has_mark, replies_to, Ascends, number_in, TokensAscend, ContextInOrder}
-use Rattle.m3_laws.proofs.credits.EndpointWeights.{how_many-append}
+use Rattle.m3_laws.specs.CommandFlights.{SentThrough, IsReplyTo, AreZeros, fetched_in, message_of, IsFlightOf, HasFlight, AllFly, replies_to, Ascends, number_in, TokensAscend, ContextInOrder}
 use Rattle.m3_laws.proofs.invariant.step.IssueEffects.{flying_at-other, flying_at-new}
-use Rattle.m3_laws.proofs.credits.Issue.{in_range, some_is, came_through}
+use Rattle.m3_laws.proofs.credits.Issue.{in_range, came_through}
 use Rattle.m3_laws.proofs.invariant.step.CommandRecordsStay.{fetched_at-mark}
 use Rattle.m3_laws.proofs.invariant.commands.ListChanges.{ascends-push, flying_at-past, tokens-mark, message_at-mark, marked-mark}
 use Rattle.m3_laws.proofs.invariant.commands.ChangeKeeps.{EndpointKeeps, endpoint_same, endpoint_form, endpoint_fetched, EndpointsKeep, endpoints_set, each_set, has_kept, flight_kept, replies_same, KeepsCommands, keeps_same, keeps_alike, keeps_freed}
+use Rattle.m3_base.proofs.Counting.{how_many-append}
+use Rattle.std.proofs.lemmas.Option.{same_Some}
 
 -- ---- one more flight
 
@@ -100,7 +101,7 @@ module _ (c d : Context) (f : Flying) (p : Packet) (act : d.act ≡ c.act) (flyi
           let its : n ≡ f.number = grind (arith, nat_tests, w, number) in
           let same : Some f ≡ Some x = sym (flying_at-new f c.flying none) ∙ subst (λ z. flying_at z (c.flying ++ f ∷ []) ≡ Some x) its there in
           let found : flight (record { issuer = d.act; number = n }) (new_flight p fs) ≡ Some p = subst (λ z. flight z (new_flight p fs) ≡ Some p) (name ∙ id_is its) (find-new p fs (subst (λ z. Apart z fs) (sym name) apart)) in
-          subst (λ z. HasFlight z (endpoint d z.ep) (flight (record { issuer = d.act; number = n }) (new_flight p fs))) (some_is f x same) (subst (HasFlight f (endpoint d f.ep)) (sym found) own)
+          subst (λ z. HasFlight z (endpoint d z.ep) (flight (record { issuer = d.act; number = n }) (new_flight p fs))) (same_Some f x same) (subst (HasFlight f (endpoint d f.ep)) (sym found) own)
         where
           id_is : n ≡ f.number → next_id c ≡ record { issuer = d.act; number = n }
           id_is q = ap (λ z. record { issuer = z; number = c.next }) (sym act) ∙ ap (λ z. record { issuer = d.act; number = z }) (sym number ∙ sym q)
@@ -109,7 +110,7 @@ module _ (c d : Context) (f : Flying) (p : Packet) (act : d.act ≡ c.act) (flyi
 launch-keeps : (c d : Context) (f : Flying) (p : Packet) (told : IssueOutcome) → is_replying f.kind ≡ false → d.act ≡ c.act → d.flying ≡ c.flying ++ f ∷ [] → d.next ≡ c.next + 1 → f.number ≡ c.next → name_of p ≡ next_id c → EndpointsKeep c.endpoints d.endpoints → IsFlightOf f.kind f.token (endpoint d f.ep) p → IssueKeepsCommands c (record { told = told; packet = Some p; context = d })
 launch-keeps c d f p told kind act flying next number name each own = record {
   act = act;
-  name = λ q e. ap name_of (sym (some_is p q e)) ∙ name;
+  name = λ q e. ap name_of (sym (same_Some p q e)) ∙ name;
   in_order = launched_order c d f p act flying next number name (λ ep. (each ep).tokens) (λ ep t. let same = ap one ((each ep).marks t) in let none = no ep t in omega (arith, same, none));
   fly = launched_fly c d f p act flying next number name (λ k t ep q. (each ep).flights k t q) own;
 }
@@ -199,7 +200,7 @@ module _ (c : Context) (ep token : ℕ) (payload : List ℕ) (r : ReceiveRecord)
   reply_done : IssueKeepsCommands c (reply_to c ep token payload r (Some m))
   reply_done = record {
     act = refl;
-    name = λ q w. ap name_of (sym (some_is (reply_packet c payload m) q w));
+    name = λ q w. ap name_of (sym (same_Some (reply_packet c payload m) q w));
     in_order = launched_order c replying command (reply_packet c payload m) refl refl refl refl refl tokens marks;
     fly = launched_fly c replying command (reply_packet c payload m) refl refl refl refl refl keeps own;
   }
@@ -236,7 +237,7 @@ acknowledge_done c ep token r m at e true =
     let l = keeps_freed c ep token (c.next + 1) r at (unmarked_is (fetched_at token r.fetched) m e).1 (omega arith) in
     record {
       act = refl;
-      name = λ q w. ap name_of (sym (some_is (credit_packet c m) q w));
+      name = λ q w. ap name_of (sym (same_Some (credit_packet c m) q w));
       in_order = l.in_order;
       fly = λ h fs apart a. all_fly-new (record (with_endpoint c ep (Receives (without_fetched r token))) { next = c.next + 1 }) (credit_packet c m) fs apart (l.fly h fs a);
     }
@@ -293,7 +294,7 @@ write-keeps c ep off payload (Receives r) at = refused c _ refl refl
 pub issue-keeps : (c : Context) (k : Command) (i : Issued) → issue c k ≡ Some i → IssueKeepsCommands c i
 issue-keeps c (Command.Send ep payload to) i e = subst (IssueKeepsCommands c) (came_through (is_busy c) _ i e) (send-keeps c ep payload to (endpoint c ep) refl)
 issue-keeps c (Command.Reply ep token payload) i e = subst (IssueKeepsCommands c) (came_through (is_busy c) _ i e) (reply-keeps c ep token payload (endpoint c ep) refl)
-issue-keeps c (Command.Fetch ep) i e = subst (IssueKeepsCommands c) (some_is _ i e) (fetch-keeps c ep (endpoint c ep) refl)
-issue-keeps c (Command.Acknowledge ep token) i e = subst (IssueKeepsCommands c) (some_is _ i e) (acknowledge-keeps c ep token (endpoint c ep) refl)
+issue-keeps c (Command.Fetch ep) i e = subst (IssueKeepsCommands c) (same_Some _ i e) (fetch-keeps c ep (endpoint c ep) refl)
+issue-keeps c (Command.Acknowledge ep token) i e = subst (IssueKeepsCommands c) (same_Some _ i e) (acknowledge-keeps c ep token (endpoint c ep) refl)
 issue-keeps c (Command.Read ep off len) i e = subst (IssueKeepsCommands c) (came_through (is_busy c) _ i e) (read-keeps c ep off len (endpoint c ep) refl)
 issue-keeps c (Command.Write ep off payload) i e = subst (IssueKeepsCommands c) (came_through (is_busy c) _ i e) (write-keeps c ep off payload (endpoint c ep) refl)

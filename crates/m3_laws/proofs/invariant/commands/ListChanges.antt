@@ -6,9 +6,9 @@ use Rattle.std.proofs.lemmas.Bool.Decides.{nat_tests}
 use Rattle.m3_base.specs.Lists.Counting.{one, how_many}
 use Rattle.m3_base.specs.declared.message.Message.{Message}
 use Rattle.m3_base.specs.Ideal.Context.{Flying, Fetched}
-use Rattle.m3_base.specs.Ideal.ReceiveRecord.{fetched_at, without_token, with_mark}
+use Rattle.m3_base.specs.Ideal.ReceiveRecord.{fetched_at, without_token, with_mark, has_mark}
 use Rattle.m3_base.specs.Ideal.Landing.{flying_at, without_flying}
-use Rattle.m3_laws.specs.CommandFlights.{Ascends, number_in, token_of, message_of, IsReplyTo, has_mark}
+use Rattle.m3_laws.specs.CommandFlights.{Ascends, number_in, token_of, message_of, IsReplyTo}
 
 -- ---- keys that ascend
 

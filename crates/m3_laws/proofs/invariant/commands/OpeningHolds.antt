@@ -10,12 +10,13 @@ use Rattle.m3_base.specs.Ideal.Landing.{flying_at}
 use Rattle.m3_base.specs.Ideal.State.{State, context_of, put_context, new_context_in, act_before, same_act, holder, holder_ep, parent_of, parent_in}
 use Rattle.m3_base.specs.Ideal.GrantRules.{form}
 use Rattle.m3_base.specs.Ideal.Opening.{opening, with_line, with_lines, state_with_grant, contexts_with_record}
-use Rattle.m3_laws.specs.CommandFlights.{has_mark, replies_to, Ascends, number_in, fetched_in, TokensAscend, CommandsInOrder}
-use Rattle.m3_laws.proofs.credits.Issue.{some_is}
+use Rattle.m3_laws.specs.CommandFlights.{replies_to, Ascends, number_in, fetched_in, TokensAscend, CommandsInOrder}
 use Rattle.m3_laws.proofs.invariant.step.OpeningHolds.{free_at}
 use Rattle.m3_base.specs.Lists.Counting.{one, how_many}
 use Rattle.m3_laws.proofs.invariant.commands.ChangeKeeps.{each_set}
 use Rattle.m3_laws.proofs.invariant.commands.StepKeeps.{InOrder}
+use Rattle.m3_base.specs.Ideal.ReceiveRecord.{has_mark}
+use Rattle.std.proofs.lemmas.Option.{same_Some}
 
 -- ---- opening: no command flies, and nothing is fetched
 
@@ -69,7 +70,7 @@ idle_found a c [] h e = absurd (cc)
 idle_found a c (x ∷ cs) h e = by_act (same_act a x.act) refl (idle_found a c cs h.1)
   where
     by_act : (b : Bool) → same_act a x.act ≡ b → (context_of a cs ≡ Some c → IsIdle c) → IsIdle c
-    by_act true w ih = subst IsIdle (some_is x c (sym (ap (λ b. if b then Some x else context_of a cs) w) ∙ e)) h.0
+    by_act true w ih = subst IsIdle (same_Some x c (sym (ap (λ b. if b then Some x else context_of a cs) w) ∙ e)) h.0
     by_act false w ih = ih (sym (ap (λ b. if b then Some x else context_of a cs) w) ∙ e)
 
 idle_granted : (s : State) (line : GrantLine) (o : Option Fresh) → AreIdle s.contexts → AreIdle (state_with_grant s line o).contexts

@@ -17,8 +17,8 @@ use Rattle.m3_base.specs.Ideal.Context.{Kind, Sending, Replying, Reading, Writin
 use Rattle.m3_base.specs.Ideal.Issue.{Issued, issue, next_id}
 use Rattle.m3_base.specs.Ideal.Landing.{land_by, land_refusal, landed_answer, message_id, after_message, with_credit, flying_at, context_after_answer, has_live, has_closing, closed_at, flies_at, bytes_at}
 use Rattle.m3_base.specs.Ideal.State.{Grant, State, context_of, put_context, same_act, grant_in, holder, holder_ep, parent_of, parent_in, undone}
-use Rattle.m3_base.specs.Ideal.GrantRules.{form, make_refusal, may_close, close_sent, change_grant, kernel_id, is_closed_grant, revoke_refusal}
-use Rattle.m3_base.specs.Ideal.Step.{Starts_closing, Closes_endpoint, Sends_close, Frees, Finishes, IdealResult, ideal_step, with_packet, issue_in, issued_in, await_in, message_in, credit_in, install_in, close_in, land_in, settle_in, answer_in, answered_in, make_in, make_for, revoke_in, send_close_in, closed_in, free_in, done_in, step_to}
+use Rattle.m3_base.specs.Ideal.GrantRules.{form, make_refusal, may_close, close_sent, change_grant, kernel_id, is_closed_grant, revoke_refusal, to_done}
+use Rattle.m3_base.specs.Ideal.Step.{Starts_closing, Closes_endpoint, Sends_close, Frees, Finishes, IdealResult, ideal_step, with_packet, issue_in, issued_in, await_in, message_in, credit_in, install_in, close_in, land_in, settle_in, answer_in, answered_in, make_in, make_for, revoke_in, send_close_in, closed_in, free_in, done_in, step_to, after_ending}
 use Rattle.m3_base.specs.Ideal.Acceptance.{is_answer_for, is_land_refusal}
 use Rattle.m3_base.proofs.KeyedList.{find-replaced_same}
 use Rattle.m3_base.specs.Ideal.FlightNames.{Apart}
@@ -27,15 +27,14 @@ use Rattle.m3_laws.specs.GrantInvariant.{GrantInvariant}
 use Rattle.m3_laws.specs.WellFormed.{WellFormed}
 use Rattle.m3_laws.specs.CommandFlights.{IsSentBy, IsReplyTo, IsFlightOf, HasFlight, AllFly, ContextInOrder, CommandsInOrder}
 use Rattle.m3_laws.proofs.credits.Land.{after_landing}
-use Rattle.m3_laws.proofs.credits.Answer.{after_ending}
-use Rattle.m3_laws.proofs.invariant.step.LookUps.{act_found, name_found, found_after}
+use Rattle.m3_laws.proofs.invariant.step.LookUps.{name_found, found_after}
 use Rattle.m3_laws.proofs.invariant.records.RecordsOfGrants.{install_free}
 use Rattle.m3_laws.proofs.invariant.records.ClosingRecords.{to_closed}
-use Rattle.m3_laws.proofs.invariant.records.OrdersKeepRecords.{to_done}
 use Rattle.m3_laws.proofs.invariant.wellformed.LandKeeps.{refusal_lands, take_short}
 use Rattle.m3_laws.proofs.invariant.commands.ChangeKeeps.{KeepsCommands, keeps_same, keeps_credit, keeps_taken, keeps_install, keeps_close, keeps_free}
 use Rattle.m3_laws.proofs.invariant.commands.IssueKeeps.{IssueKeepsCommands, issue-keeps, all_fly-new}
 use Rattle.m3_laws.proofs.invariant.commands.AnswerKeeps.{answered_in_order, answered_fly}
+use Rattle.m3_base.proofs.Activities.{act_found}
 
 -- ---- flights change, and contexts stay
 

@@ -9,19 +9,20 @@ use Rattle.m3_base.specs.declared.packet.Fresh.{Fresh}
 use Rattle.m3_base.specs.Lists.Counting.{one, how_many}
 use Rattle.m3_base.specs.Ideal.Flights.{flight, end_flight, same_name, name_of}
 use Rattle.m3_base.specs.Ideal.Context.{Endpoint, Free, Sends, Receives, Reaches, Context, endpoint, with_endpoint}
-use Rattle.m3_base.specs.Ideal.Landing.{has_closing, has_live, closed_at}
-use Rattle.m3_base.specs.Ideal.State.{Closed, Grant, State, holder, holder_ep, grant_in, is_done, context_of, put_context, act_of, same_act, act_before}
+use Rattle.m3_base.specs.Ideal.Landing.{has_closing, has_live, closed_at, is_record_of}
+use Rattle.m3_base.specs.Ideal.State.{Closed, Grant, State, holder, holder_ep, grant_in, is_done, context_of, put_context, act_of, same_act, act_before, is_open}
 use Rattle.m3_base.specs.Ideal.GrantRules.{change_grant}
-use Rattle.m3_base.specs.Ideal.Step.{number_of}
+use Rattle.m3_base.specs.Ideal.Step.{number_of, is_install_of}
 use Rattle.m3_base.proofs.KeyedList.{total-replaced, how_many-without}
 use Rattle.m3_base.proofs.FlightNames.{distinct-end}
 use Rattle.m3_laws.proofs.invariant.step.LookUps.{found_ended}
-use Rattle.m3_laws.specs.GrantInvariant.{GrantsLawful, is_record_of, is_open_grant, is_close_sent, form_of, IsHeldAt, FormLawful, InstallLawful, SlotsLawful, RecordsMatchGrants}
-use Rattle.m3_laws.specs.Laws.{is_install_of, is_close_of, is_open}
+use Rattle.m3_laws.specs.GrantInvariant.{GrantsLawful, is_open_grant, is_close_sent, form_of, IsHeldAt, FormLawful, InstallLawful, SlotsLawful, RecordsMatchGrants}
+use Rattle.m3_laws.specs.Laws.{is_close_of}
 use Rattle.m3_laws.proofs.grants.GrantList.{Changes, at_one, grant_changed, changed_from}
-use Rattle.m3_laws.proofs.credits.Counting.{how_many-set, some_at, length-set', at_set}
+use Rattle.m3_laws.proofs.credits.Counting.{how_many-set, some_at, at_set}
 use Rattle.m3_laws.proofs.grants.OrdersKeepGrants.{one_changes, closed_tree}
 use Rattle.m3_laws.proofs.invariant.records.RecordsOfGrants.{closing_sent, records_put, cells_put, open_undone, installs_put}
+use Rattle.std.proofs.lemmas.List.{length-set}
 
 -- ---- a Close lands
 
@@ -60,7 +61,7 @@ module _ (s : State) (placed : RecordsMatchGrants s) (id x : FlightId) (to ep g 
   pub close_placed : RecordsMatchGrants (record s { contexts = put_context closed s.contexts; flights = end_flight id s.flights })
   close_placed = record {
     distinct = distinct-end id s.flights placed.distinct;
-    cells = cells_put s.contexts c closed here placed.cells (length-set' c.endpoints ep (closed_at (endpoint c ep)));
+    cells = cells_put s.contexts c closed here placed.cells (length-set c.endpoints ep (closed_at (endpoint c ep)));
     records = records_put s.grants s.contexts c closed here placed.records (λ i. subst (FormLawful s.grants c.act i) (sym (closing_forms i)) (placed.records c.act c here i));
     installs = λ i p e. installs_put s.grants s.contexts c closed here (λ b k q z. closing_forms k ∙ z) p (placed.installs i p (found_ended id i p s.flights placed.distinct e));
     presence = λ h. omega (
@@ -224,7 +225,7 @@ module _ (s : State) (placed : RecordsMatchGrants s) (ep g : ℕ) (c : Context) 
   pub closed_placed : RecordsMatchGrants (record s { contexts = put_context freed_context s.contexts; grants = ks })
   closed_placed = record {
     distinct = placed.distinct;
-    cells = cells_put s.contexts c freed_context here placed.cells (length-set' c.endpoints ep Free);
+    cells = cells_put s.contexts c freed_context here placed.cells (length-set c.endpoints ep Free);
     records = λ a y e i. form_changed s.grants ks (at_one g to_closed) ch a i (form_of (endpoint y i)) (records_put s.grants s.contexts c freed_context here placed.records (λ k. freed_form c.act k (placed.records c.act c here k)) a y e i);
     installs = λ i p e. install_changed s.grants ks (at_one g to_closed) ch (put_context freed_context s.contexts) p (installs_put s.grants s.contexts c freed_context here (λ b k q z. freed_none k z) p (placed.installs i p e));
     presence = λ h. omega (

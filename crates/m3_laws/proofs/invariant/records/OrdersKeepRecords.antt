@@ -10,21 +10,23 @@ use Rattle.m3_base.specs.declared.packet.Fresh.{Fresh}
 use Rattle.m3_base.specs.declared.order.GrantLine.{GrantLine}
 use Rattle.m3_base.specs.Lists.Counting.{one}
 use Rattle.m3_base.specs.Ideal.Flights.{flight, same_name, name_before, name_of}
-use Rattle.m3_base.specs.Ideal.Context.{Endpoint, Free, Sends, Receives, Reaches, Context, endpoint}
-use Rattle.m3_base.specs.Ideal.State.{Standing, Live, Closing, Closed, Done, Grant, State, holder, holder_ep, parent_of, grant_in, parent_in, is_done, is_live, context_of, undone}
-use Rattle.m3_base.specs.Ideal.GrantRules.{form, change_grant, kernel_id, new_grant, with_grant_made, close_sent, after_revoke, holds_at, may_close, send_form, part_form, is_above_closing, is_closing_grant, with_root_closing, closing_where, marks_under, to_closing, or_false}
-use Rattle.m3_base.specs.Ideal.Step.{number_of}
+use Rattle.m3_base.specs.Ideal.Context.{Endpoint, Free, Sends, Receives, Reaches, Context, endpoint, endpoint_at}
+use Rattle.m3_base.specs.Ideal.State.{Standing, Live, Closing, Closed, Done, Grant, State, holder, holder_ep, parent_of, grant_in, parent_in, is_done, is_live, context_of, undone, is_open}
+use Rattle.m3_base.specs.Ideal.GrantRules.{form, change_grant, kernel_id, new_grant, with_grant_made, close_sent, after_revoke, holds_at, may_close, send_form, part_form, is_above_closing, is_closing_grant, with_root_closing, closing_where, marks_under, to_closing, or_false, to_root, to_sent, new_install, to_done}
+use Rattle.m3_base.specs.Ideal.Step.{number_of, is_install_of}
 use Rattle.m3_base.proofs.KeyedList.{how_many-inserted}
 use Rattle.m3_base.specs.Ideal.FlightNames.{Apart}
 use Rattle.m3_base.proofs.FlightNames.{distinct-new}
 use Rattle.m3_laws.proofs.invariant.step.LookUps.{found_new}
-use Rattle.m3_laws.specs.GrantInvariant.{is_record_of, is_open_grant, is_close_sent, form_of, IsHeldAt, FormLawful, endpoint_at, InstallLawful, SlotsLawful, RecordsMatchGrants}
-use Rattle.m3_laws.specs.Laws.{is_install_of, is_close_of, is_open}
-use Rattle.m3_laws.proofs.grants.GrantList.{Changes, at_one, grant_changed, grant_added, grant_past}
+use Rattle.m3_laws.specs.GrantInvariant.{is_open_grant, is_close_sent, form_of, IsHeldAt, FormLawful, InstallLawful, SlotsLawful, RecordsMatchGrants}
+use Rattle.m3_laws.specs.Laws.{is_close_of}
+use Rattle.m3_laws.proofs.grants.GrantList.{Changes, at_one, grant_changed, grant_added}
 use Rattle.m3_base.specs.declared.packet.Perm.{Perm}
 use Rattle.m3_laws.proofs.grants.OrdersKeepGrants.{mild_kept, mild_closing, closing_changes, one_changes, revoke_tree, close_tree, done_tree, make_tree}
 use Rattle.m3_laws.proofs.invariant.records.RecordsOfGrants.{record_open, open_undone}
 use Rattle.m3_laws.proofs.invariant.records.ClosingRecords.{form_changed, install_changed, slots_changed, open_changed, placed_after_regrant}
+use Rattle.m3_base.specs.Ideal.Landing.{is_record_of}
+use Rattle.m3_base.proofs.GrantsByNumber.{grant_past}
 
 -- ---- revoke and done
 
@@ -40,9 +42,6 @@ closing_stands b x = by_mark (b && is_live x.standing) refl
     by_mark : (d : Bool) → (b && is_live x.standing) ≡ d → (is_open (if d then record x { standing = Closing } else x).standing ≡ is_open x.standing) × ((if d then record x { standing = Closing } else x).close_sent ≡ x.close_sent) × (is_done (if d then record x { standing = Closing } else x).standing ≡ false → is_done x.standing ≡ false)
     by_mark false e = (refl, refl, λ z. z)
     by_mark true e = let t = by_standing x.standing (grind (arith, e)) in (t.0, refl, λ z. t.1)
-
-abbrev pub to_root : Grant → Grant
-to_root y = record y { is_root = true }
 
 root_stands : (g h : ℕ) (x : Grant) → (is_open (at_one g to_root h x).standing ≡ is_open x.standing) × ((at_one g to_root h x).close_sent ≡ x.close_sent) × (is_done (at_one g to_root h x).standing ≡ false → is_done x.standing ≡ false)
 root_stands g h x = by_same (h == g)
@@ -68,9 +67,6 @@ revoke_placed s g placed =
     (λ h x z e. (root_stands g h x).2 z)
     (revoke_tree s.grants g placed.grants)
     first
-
-abbrev pub to_done : Grant → Grant
-to_done y = record y { standing = Done }
 
 pub done_placed : (s : State) (g : ℕ) (x : Grant) → grant_in s.grants g ≡ Some x → x.standing ≡ Closed → RecordsMatchGrants s → RecordsMatchGrants (record s { grants = change_grant s.grants g to_done })
 done_placed s g x at closed placed =
@@ -98,9 +94,6 @@ done_placed s g x at closed placed =
     by_done y false z = z
 
 -- ---- a Close is sent
-
-abbrev pub to_sent : Grant → Grant
-to_sent y = record y { close_sent = true }
 
 sents_more : (gs : List Grant) (g h : ℕ) (x : Grant) (o : Option Grant) → grant_in gs g ≡ Some x → is_open x.standing ≡ true → x.close_sent ≡ false → grant_in gs h ≡ o → one (is_close_sent (option_map (at_one g to_sent h) o)) ≡ one (is_close_sent o) + one (g == h)
 sents_more gs g h x None at p q e = grind (arith, nat_tests, at, e)
@@ -195,9 +188,6 @@ module _ (s : State) (line : GrantLine) (f : Fresh) (placed : RecordsMatchGrants
   abbrev more : List Grant
   more = s.grants ++ new_grant line f ∷ []
 
-  abbrev new_install : Packet
-  new_install = Packet.Install (kernel_id s) (holder line) (holder_ep line) f
-
   number : number_of f ≡ length s.grants + 1
   number = form_number (length s.grants + 1) line (undone (parent_in s.grants (parent_of line))) f is_form
 
@@ -266,7 +256,7 @@ module _ (s : State) (line : GrantLine) (f : Fresh) (placed : RecordsMatchGrants
       by_context None e = refl
       by_context (Some c) e = by_form c e (form_of (endpoint c (holder_ep line))) refl
 
-  new_lawful_install : InstallLawful more s.contexts new_install
+  new_lawful_install : InstallLawful more s.contexts (new_install s line f)
   new_lawful_install =
       let here : grant_in more (number_of f) ≡ Some (new_grant line f) = ap (grant_in more) number ∙ (added (length s.grants + 1) ∙ grind (arith, nat_tests)) in
       (inside, subst (λ z. IsHeldAt z (holder line) (holder_ep line) f) (sym here) (record { fresh = refl; act = refl; ep = refl }), free_there)
@@ -288,16 +278,16 @@ module _ (s : State) (line : GrantLine) (f : Fresh) (placed : RecordsMatchGrants
 
   pub made_placed : RecordsMatchGrants (with_grant_made s line f)
   made_placed = record {
-    distinct = distinct-new new_install s.flights apart placed.distinct;
+    distinct = distinct-new (new_install s line f) s.flights apart placed.distinct;
     cells = placed.cells;
     records = λ a c e ep. form_kept a ep (form_of (endpoint c ep)) (placed.records a c e ep);
-    installs = λ i q e. by_new i q (found_new i q new_install s.flights apart e);
-    presence = λ h. omega (arith, placed.presence h, how_many-inserted name_of same_name name_before (is_install_of h) new_install s.flights, opens_more h);
-    closings = λ h. omega (arith, placed.closings h, how_many-inserted name_of same_name name_before (is_close_of h) new_install s.flights, sents_same h);
+    installs = λ i q e. by_new i q (found_new i q (new_install s line f) s.flights apart e);
+    presence = λ h. omega (arith, placed.presence h, how_many-inserted name_of same_name name_before (is_install_of h) (new_install s line f) s.flights, opens_more h);
+    closings = λ h. omega (arith, placed.closings h, how_many-inserted name_of same_name name_before (is_close_of h) (new_install s line f) s.flights, sents_same h);
     grants = make_tree s.grants line f placed.grants is_form live;
     slots = new_slots;
   }
     where
-      by_new : (i : FlightId) (q : Packet) → (q ≡ new_install) ⊎ (flight i s.flights ≡ Some q) → InstallLawful more s.contexts q
+      by_new : (i : FlightId) (q : Packet) → (q ≡ (new_install s line f)) ⊎ (flight i s.flights ≡ Some q) → InstallLawful more s.contexts q
       by_new i q (inl e) = subst (InstallLawful more s.contexts) (sym e) new_lawful_install
       by_new i q (inr e) = install_kept q (placed.installs i q e)

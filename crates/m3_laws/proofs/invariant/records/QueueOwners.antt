@@ -10,10 +10,11 @@ use Rattle.m3_base.specs.Ideal.Context.{Kind, Sending, Reading, Writing, Flying,
 use Rattle.m3_base.specs.Ideal.ReceiveRecord.{with_fetched, fetched_at, unmarked_message, without_token, with_mark, without_fetched, with_mark_at}
 use Rattle.m3_base.specs.Ideal.Issue.{less_one, send, send_refusal, reply, reply_to, reply_refusal, fetch, fetch_from, acknowledge, acknowledge_at, after_acknowledge, read, write, access, access_refusal, may_read, may_write, unless_refusal, first_of, with_flying_command, next_id, Issued, issue, is_busy, IssueOutcome, send_packet}
 use Rattle.m3_base.specs.Ideal.Landing.{flying_at}
-use Rattle.m3_laws.proofs.credits.Issue.{some_is, came_through}
+use Rattle.m3_laws.proofs.credits.Issue.{came_through}
 use Rattle.m3_laws.proofs.invariant.step.IssueEffects.{no_flags}
 use Rattle.m3_base.specs.Ideal.State.{Grant, grant_in}
 use Rattle.m3_laws.specs.GrantInvariant.{HolderIs, ChildOf, SentTo, AllSentTo, AllFetchedTo, QueueLawful}
+use Rattle.std.proofs.lemmas.Option.{same_Some}
 
 abbrev pub EachLawful : List Grant → List Endpoint → Type 0
 EachLawful gs es = (i : ℕ) → QueueLawful gs (get_or es i Free)
@@ -214,7 +215,7 @@ write_all gs c ep off payload (Receives r) h idle = stays gs c _ h refl refl
 pub issue_owns : (gs : List Grant) (c : Context) (k : Command) (i : Issued) → ((ep : ℕ) (r : SendRecord) → endpoint c ep ≡ Sends r → ChildOf (grant_in gs r.grant) c.act r.to_grant) → EachLawful gs c.endpoints → issue c k ≡ Some i → Owns gs c i
 issue_owns gs c (Command.Send ep payload to) i child h e = subst (Owns gs c) (came_through (is_busy c) _ i e) (send_all gs c ep payload to (endpoint c ep) (child ep) h refl (idle_of c _ i e))
 issue_owns gs c (Command.Reply ep token payload) i child h e = subst (Owns gs c) (came_through (is_busy c) _ i e) (reply_all gs c ep token payload (endpoint c ep) h refl (idle_of c _ i e))
-issue_owns gs c (Command.Fetch ep) i child h e = subst (Owns gs c) (some_is _ i e) (fetch_all gs c ep (endpoint c ep) h refl)
-issue_owns gs c (Command.Acknowledge ep token) i child h e = subst (Owns gs c) (some_is _ i e) (acknowledge_all gs c ep token (endpoint c ep) h refl)
+issue_owns gs c (Command.Fetch ep) i child h e = subst (Owns gs c) (same_Some _ i e) (fetch_all gs c ep (endpoint c ep) h refl)
+issue_owns gs c (Command.Acknowledge ep token) i child h e = subst (Owns gs c) (same_Some _ i e) (acknowledge_all gs c ep token (endpoint c ep) h refl)
 issue_owns gs c (Command.Read ep off len) i child h e = subst (Owns gs c) (came_through (is_busy c) _ i e) (read_all gs c ep off len (endpoint c ep) h (idle_of c _ i e))
 issue_owns gs c (Command.Write ep off payload) i child h e = subst (Owns gs c) (came_through (is_busy c) _ i e) (write_all gs c ep off payload (endpoint c ep) h (idle_of c _ i e))

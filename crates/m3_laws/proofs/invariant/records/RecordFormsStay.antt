@@ -14,17 +14,17 @@ use Rattle.m3_base.specs.Ideal.ReceiveRecord.{fetched_at, unmarked_message}
 use Rattle.m3_base.specs.Ideal.Issue.{IssueOutcome, next_id, send_packet, with_flying_command, less_one, Issued, issue, send, reply, fetch, acknowledge, read, write, unless_refusal, first_of, is_busy, send_refusal, reply_refusal, reply_to, fetch_from, acknowledge_at, after_acknowledge, access, access_refusal, may_read, may_write}
 use Rattle.m3_base.specs.Ideal.Landing.{with_message, after_message, with_credit, endpoints_with_credit, more_at, context_after_answer, endpoint_after_answer}
 use Rattle.m3_base.specs.Ideal.State.{Grant}
-use Rattle.m3_base.specs.Ideal.Step.{with_packet}
+use Rattle.m3_base.specs.Ideal.Step.{with_packet, is_install_of}
 use Rattle.m3_base.proofs.KeyedList.{how_many-inserted, how_many-without, how_many-replaced}
-use Rattle.m3_laws.proofs.credits.Issue.{some_is, came_through}
+use Rattle.m3_laws.proofs.credits.Issue.{came_through}
 use Rattle.m3_base.specs.Ideal.FlightNames.{Apart, Distinct}
 use Rattle.m3_base.proofs.FlightNames.{distinct-change, distinct-end, distinct-new}
 use Rattle.m3_laws.proofs.invariant.step.LookUps.{found_ended, found_new, found_changed}
-use Rattle.m3_laws.specs.GrantInvariant.{fixed_part, InstallLawful}
-use Rattle.m3_laws.specs.Laws.{is_install_of, is_close_of}
+use Rattle.m3_laws.specs.GrantInvariant.{fixed_part, InstallLawful, IsData}
+use Rattle.m3_laws.specs.Laws.{is_close_of}
 use Rattle.m3_laws.proofs.credits.Counting.{SameFixedParts, same_fixed_parts, faces_then, faces_set}
 use Rattle.m3_laws.proofs.invariant.records.RecordsOfGrants.{SameOrders}
-use Rattle.m3_laws.specs.NoConfigInFlight.{IsData}
+use Rattle.std.proofs.lemmas.Option.{same_Some}
 
 pub face_put : (c d : Context) (ep : ℕ) (e : Endpoint) → d.act ≡ c.act → d.endpoints ≡ set c.endpoints ep e → fixed_part e ≡ fixed_part (endpoint c ep) → SameFixedParts c d
 face_put c d ep e a q h = record { act = a; faces = ap (map fixed_part) q ∙ faces_set c.endpoints ep e h }
@@ -95,8 +95,8 @@ write_faces c ep off payload (Reaches r) = access_faces c Writing ep _ (access_r
 pub issue_faces : (c : Context) (k : Command) (i : Issued) → issue c k ≡ Some i → SameFixedParts c i.context
 issue_faces c (Command.Send ep payload to) i e = subst (λ z. SameFixedParts c z.context) (came_through (is_busy c) _ i e) (send_faces c ep payload to (endpoint c ep) refl None)
 issue_faces c (Command.Reply ep token payload) i e = subst (λ z. SameFixedParts c z.context) (came_through (is_busy c) _ i e) (reply_faces c ep token payload (endpoint c ep) refl)
-issue_faces c (Command.Fetch ep) i e = subst (λ z. SameFixedParts c z.context) (some_is _ i e) (fetch_faces c ep (endpoint c ep) refl)
-issue_faces c (Command.Acknowledge ep token) i e = subst (λ z. SameFixedParts c z.context) (some_is _ i e) (acknowledge_faces c ep token (endpoint c ep) refl)
+issue_faces c (Command.Fetch ep) i e = subst (λ z. SameFixedParts c z.context) (same_Some _ i e) (fetch_faces c ep (endpoint c ep) refl)
+issue_faces c (Command.Acknowledge ep token) i e = subst (λ z. SameFixedParts c z.context) (same_Some _ i e) (acknowledge_faces c ep token (endpoint c ep) refl)
 issue_faces c (Command.Read ep off len) i e = subst (λ z. SameFixedParts c z.context) (came_through (is_busy c) _ i e) (read_faces c ep off len (endpoint c ep))
 issue_faces c (Command.Write ep off payload) i e = subst (λ z. SameFixedParts c z.context) (came_through (is_busy c) _ i e) (write_faces c ep off payload (endpoint c ep))
 

@@ -7,17 +7,19 @@ use Rattle.m3_base.specs.declared.packet.Packet.{Packet}
 use Rattle.m3_base.specs.declared.packet.Fresh.{Fresh}
 use Rattle.m3_base.specs.Lists.Counting.{one, how_many}
 use Rattle.m3_base.specs.Ideal.Flights.{flight, end_flight, same_name, name_of}
-use Rattle.m3_base.specs.Ideal.Context.{Endpoint, Free, Sends, Receives, Reaches, Context, endpoint, with_endpoint, new_endpoint}
-use Rattle.m3_base.specs.Ideal.Landing.{has_closing}
-use Rattle.m3_base.specs.Ideal.State.{Standing, Live, Closing, Closed, Done, Grant, State, grant_in, is_done, context_of, put_context, act_of, same_act, act_before}
-use Rattle.m3_base.specs.Ideal.Step.{number_of}
+use Rattle.m3_base.specs.Ideal.Context.{Endpoint, Free, Sends, Receives, Reaches, Context, endpoint, with_endpoint, new_endpoint, endpoint_at}
+use Rattle.m3_base.specs.Ideal.Landing.{has_closing, is_record_of}
+use Rattle.m3_base.specs.Ideal.State.{Standing, Live, Closing, Closed, Done, Grant, State, grant_in, is_done, context_of, put_context, act_of, same_act, act_before, is_open}
+use Rattle.m3_base.specs.Ideal.Step.{number_of, is_install_of}
 use Rattle.m3_base.proofs.KeyedList.{total-replaced, how_many-without, find-replaced_other, find-replaced_same}
-use Rattle.m3_laws.proofs.invariant.step.LookUps.{same_act-is, act_joins, same_act-itself, act_found, found_after, found_ended}
+use Rattle.m3_laws.proofs.invariant.step.LookUps.{found_after, found_ended}
 use Rattle.m3_base.specs.Ideal.FlightNames.{Distinct}
 use Rattle.m3_base.proofs.FlightNames.{distinct-end}
-use Rattle.m3_laws.specs.GrantInvariant.{is_record_of, is_open_grant, is_close_sent, form_of, IsHeldAt, FormLawful, endpoint_at, InstallLawful, SlotsLawful, RecordsMatchGrants}
-use Rattle.m3_laws.specs.Laws.{is_install_of, is_close_of, is_open}
-use Rattle.m3_laws.proofs.credits.Counting.{how_many-set, some_at, some_found, one_found, SameFixedParts, same_form, same_at, same_closing, same_cells, length-set', at_set}
+use Rattle.m3_laws.specs.GrantInvariant.{is_open_grant, is_close_sent, form_of, IsHeldAt, FormLawful, InstallLawful, SlotsLawful, RecordsMatchGrants}
+use Rattle.m3_laws.specs.Laws.{is_close_of}
+use Rattle.m3_laws.proofs.credits.Counting.{how_many-set, some_at, some_found, one_found, SameFixedParts, same_form, same_at, same_closing, same_cells, at_set}
+use Rattle.m3_base.proofs.Activities.{same_act-is, same_act-itself, act_found, same_act-joins, found_own}
+use Rattle.std.proofs.lemmas.List.{length-set}
 
 pub is_one : (b : Bool) → 1 ≤ one b → b ≡ true
 is_one true h = refl
@@ -71,7 +73,7 @@ pub free_put : (cs : List Context) (c d : Context) (to ep : ℕ) → context_of 
 free_put cs c d to ep at free new = by_same (same_act to d.act) refl
   where
     by_same : (b : Bool) → same_act to d.act ≡ b → form_of (endpoint_at (context_of to (put_context d cs)) ep) ≡ None
-    by_same false w = ap (λ z. form_of (endpoint_at z ep)) (find-replaced_other act_of same_act act_before to d cs act_joins w) ∙ free
+    by_same false w = ap (λ z. form_of (endpoint_at z ep)) (find-replaced_other act_of same_act act_before to d cs same_act-joins w) ∙ free
     by_same true w =
         let q = same_act-is to d.act w in
         let here : context_of to cs ≡ Some c = subst (λ z. context_of z cs ≡ Some c) (sym q) at in
@@ -168,9 +170,6 @@ module _ (s : State) (placed : RecordsMatchGrants s) (id x : FlightId) (to ep : 
   is_to : to ≡ c.act
   is_to = act_found to c s.contexts at
 
-  here : context_of c.act s.contexts ≡ Some c
-  here = subst (λ z. context_of z s.contexts ≡ Some c) is_to at
-
   law : InstallLawful s.grants s.contexts (Packet.Install x to ep f)
   law = placed.installs id (Packet.Install x to ep f) find
 
@@ -200,7 +199,7 @@ module _ (s : State) (placed : RecordsMatchGrants s) (id x : FlightId) (to ep : 
           absurd (omega (arith, n, lone_install))
 
   others : (i : FlightId) (p : Packet) → flight i hs ≡ Some p → InstallLawful s.grants s.contexts p → InstallLawful s.grants (put_context d s.contexts) p
-  others i (Packet.Install y b ep2 k) e h = (h.0, h.1, free_put s.contexts c d b ep2 here h.2 (λ q z. stays_free i y ep2 k b q e h.1 z))
+  others i (Packet.Install y b ep2 k) e h = (h.0, h.1, free_put s.contexts c d b ep2 (found_own to c s.contexts at) h.2 (λ q z. stays_free i y ep2 k b q e h.1 z))
   others i (Packet.Message b ep2 g m) e h = tt
   others i (Packet.Credit y b g) e h = tt
   others i (Packet.Read y g place buffer) e h = tt
@@ -212,14 +211,14 @@ module _ (s : State) (placed : RecordsMatchGrants s) (id x : FlightId) (to ep : 
   new_records i = by_set (at_set c.endpoints ep i (new_endpoint f))
     where
       by_set : (get_or (set c.endpoints ep (new_endpoint f)) i Free ≡ get_or c.endpoints i Free) ⊎ ((i ≡ ep) × (get_or (set c.endpoints ep (new_endpoint f)) i Free ≡ new_endpoint f)) → FormLawful s.grants c.act i (form_of (endpoint d i))
-      by_set (inl w) = subst (λ z. FormLawful s.grants c.act i (form_of z)) (sym w) (placed.records c.act c here i)
+      by_set (inl w) = subst (λ z. FormLawful s.grants c.act i (form_of z)) (sym w) (placed.records c.act c (found_own to c s.contexts at) i)
       by_set (inr w) = subst (λ z. FormLawful s.grants c.act i (form_of z)) (sym w.1) (subst (FormLawful s.grants c.act i) (sym (opened_form f)) (subst (λ z. IsHeldAt (grant_in s.grants (number_of f)) z i f) is_to (subst (λ z. IsHeldAt (grant_in s.grants (number_of f)) to z f) (sym w.0) law.1)))
 
   pub install_placed : RecordsMatchGrants (record s { contexts = put_context d s.contexts; flights = hs })
   install_placed = record {
     distinct = distinct-end id s.flights placed.distinct;
-    cells = cells_put s.contexts c d here placed.cells (length-set' c.endpoints ep (new_endpoint f));
-    records = records_put s.grants s.contexts c d here placed.records new_records;
+    cells = cells_put s.contexts c d (found_own to c s.contexts at) placed.cells (length-set c.endpoints ep (new_endpoint f));
+    records = records_put s.grants s.contexts c d (found_own to c s.contexts at) placed.records new_records;
     installs = λ i p e. others i p e (placed.installs i p (found_ended id i p s.flights placed.distinct e));
     presence = λ g. omega (
       arith,
@@ -228,7 +227,7 @@ module _ (s : State) (placed : RecordsMatchGrants s) (id x : FlightId) (to ep : 
       ap (λ e. one (is_record_of g e)) install_free,
       ap one (opened_at g f),
       how_many-without name_of same_name same_name (is_install_of g) id (Packet.Install x to ep f) s.flights find,
-      total-replaced act_of same_act act_before (λ y. how_many (is_record_of g) y.endpoints) d c s.contexts here,
+      total-replaced act_of same_act act_before (λ y. how_many (is_record_of g) y.endpoints) d c s.contexts (found_own to c s.contexts at),
     );
     closings = λ g. omega (
       arith,
@@ -237,7 +236,7 @@ module _ (s : State) (placed : RecordsMatchGrants s) (id x : FlightId) (to ep : 
       ap (λ e. one (has_closing g e)) install_free,
       ap one (opened_closing g f),
       how_many-without name_of same_name same_name (is_close_of g) id (Packet.Install x to ep f) s.flights find,
-      total-replaced act_of same_act act_before (λ y. how_many (has_closing g) y.endpoints) d c s.contexts here,
+      total-replaced act_of same_act act_before (λ y. how_many (has_closing g) y.endpoints) d c s.contexts (found_own to c s.contexts at),
     );
     grants = placed.grants;
     slots = placed.slots;

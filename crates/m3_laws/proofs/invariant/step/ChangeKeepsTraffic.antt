@@ -11,7 +11,7 @@ use Rattle.m3_base.specs.Ideal.Flights.{kernel, flight, same_name, name_of}
 use Rattle.m3_base.specs.Ideal.Context.{Kind, Sending, Replying, Reading, Writing, Flying, Fetched, SendRecord, Endpoint, Free, Sends, Receives, Reaches, Context, endpoint, with_endpoint, new_endpoint}
 use Rattle.m3_base.specs.Ideal.ReceiveRecord.{with_unread}
 use Rattle.m3_base.specs.Ideal.Landing.{with_message, after_message, with_credit, endpoints_with_credit, one_more, land_refusal, message_id, flying_at, closed_at, flies_at, is_command_at}
-use Rattle.m3_base.specs.Ideal.State.{Grant, context_of, put_context, same_act, grant_in}
+use Rattle.m3_base.specs.Ideal.State.{Grant, context_of, put_context, same_act, grant_in, is_open, DistinctActs}
 use Rattle.m3_base.specs.Ideal.Credits.{gives_back, gives_back_by}
 use Rattle.m3_base.specs.Ideal.FlightNames.{Apart}
 use Rattle.m3_laws.proofs.invariant.step.CommandRecordsStay.{Safe, safe, safe-free, safe-sends, safe-receives, safe-then}
@@ -19,8 +19,7 @@ use Rattle.m3_laws.proofs.invariant.step.IssueEffects.{EachSafe, each_safe, each
 use Rattle.m3_laws.proofs.invariant.step.ChangeOneContext.{Moved, moved_back, back_in_moved}
 use Rattle.m3_laws.proofs.credits.Land.{SameBack}
 use Rattle.m3_laws.proofs.invariant.step.LookUps.{found_after}
-use Rattle.m3_laws.specs.GrantInvariant.{HolderIs, ChildOf, SentTo, AllSentTo, AllFetchedTo, QueueLawful, ContextLawful, PacketLawful, ActsDistinct, Traffic, CreditsLawful}
-use Rattle.m3_laws.specs.Laws.{is_open}
+use Rattle.m3_laws.specs.GrantInvariant.{HolderIs, ChildOf, SentTo, AllSentTo, AllFetchedTo, QueueLawful, ContextLawful, PacketLawful, Traffic, CreditsLawful}
 use Rattle.m3_laws.proofs.invariant.records.QueueOwners.{EachLawful, sent-push, each_set}
 use Rattle.m3_laws.specs.CommandRecord.{CommandsHaveRecords, IsRecordFor, CommandHasRecord}
 
@@ -30,11 +29,11 @@ act_put : (a : ℕ) (d : Context) (cs : List Context) → context_of a cs ≡ No
 act_put a d [] h = refl
 act_put a d (x ∷ cs) h = grind (arith, nat_tests, act_put a d cs)
 
-pub acts_put : (d : Context) (cs : List Context) → ActsDistinct cs → ActsDistinct (put_context d cs)
+pub acts_put : (d : Context) (cs : List Context) → DistinctActs cs → DistinctActs (put_context d cs)
 acts_put d [] h = tt
 acts_put d (x ∷ cs) h = by_act (d.act == x.act) refl (acts_put d cs h.1)
   where
-    by_act : (b : Bool) → (d.act == x.act) ≡ b → ActsDistinct (put_context d cs) → ActsDistinct (if b then d ∷ cs else x ∷ put_context d cs)
+    by_act : (b : Bool) → (d.act == x.act) ≡ b → DistinctActs (put_context d cs) → DistinctActs (if b then d ∷ cs else x ∷ put_context d cs)
     by_act true w ih = let q : d.act ≡ x.act = grind (arith, nat_tests, w) in (subst (λ z. context_of z cs ≡ None) (sym q) h.0, h.1)
     by_act false w ih = (act_put x.act d cs h.0, ih)
 

@@ -14,11 +14,11 @@ use Rattle.m3_base.specs.Ideal.Credits.{gives_back_by, gives_back_in, is_refusal
 use Rattle.m3_base.proofs.KeyedList.{total-replaced, total-inserted, total-without, how_many-without, how_many-inserted, find-replaced_other, find-replaced_same}
 use Rattle.m3_laws.proofs.credits.EndpointWeights.{context_weight}
 use Rattle.m3_laws.proofs.credits.Issue.{bears, packet_weight}
-use Rattle.m3_laws.proofs.invariant.step.LookUps.{same_act-is, act_joins, same_act-itself}
 use Rattle.m3_laws.proofs.invariant.step.IssueEffects.{EachSafe, OwnBack, NewPacket}
 use Rattle.m3_base.specs.Ideal.FlightNames.{Apart, Distinct}
 use Rattle.m3_base.proofs.FlightNames.{ended}
 use Rattle.m3_laws.specs.CommandRecord.{CommandsHaveRecords, CommandHasRecord}
+use Rattle.m3_base.proofs.Activities.{same_act-is, same_act-itself, same_act-joins}
 
 -- c becomes d, and only the flying command n may change
 pub record Moves (n : ℕ) (c d : Context) : Type 0 where
@@ -42,7 +42,7 @@ pub moved_back : (n : ℕ) (c d : Context) → Moves n c d → CommandsHaveRecor
 moved_back n c d m s = record { act = m.act; back = λ g k ne. back_moved g n k c d m s ne }
 
 pub back_in_moved : (g n : ℕ) (id : FlightId) (cs : List Context) (c d : Context) → Moved n c d → context_of d.act cs ≡ Some c → same_name (record { issuer = d.act; number = n }) id ≡ false → (b : Bool) → same_act id.issuer d.act ≡ b → gives_back_in g id.number (context_of id.issuer (put_context d cs)) ≡ gives_back_in g id.number (context_of id.issuer cs)
-back_in_moved g n id cs c d m at ne false e = rw (find-replaced_other act_of same_act act_before id.issuer d cs act_joins e) refl
+back_in_moved g n id cs c d m at ne false e = rw (find-replaced_other act_of same_act act_before id.issuer d cs same_act-joins e) refl
 back_in_moved g n id cs c d m at ne true e =
     rw (same_act-is id.issuer d.act e, find-replaced_same act_of same_act act_before d c cs (same_act-itself d.act) at, at) (
     m.back g id.number (λ h. grind (arith, nat_tests, e, ne, h))

@@ -12,23 +12,23 @@ use Rattle.m3_base.specs.Lists.Counting.{total, one, how_many}
 use Rattle.m3_base.specs.Ideal.Flights.{flight, same_name, name_of}
 use Rattle.m3_base.specs.Ideal.Context.{Kind, Sending, Flying, SendRecord, Endpoint, Free, Sends, Receives, Reaches, Context, endpoint}
 use Rattle.m3_base.specs.Ideal.Issue.{next_id}
-use Rattle.m3_base.specs.Ideal.Landing.{grant_of, is_closing, has_live, has_closing, flying_at}
+use Rattle.m3_base.specs.Ideal.Landing.{grant_of, is_closing, has_live, has_closing, flying_at, is_record_of}
 use Rattle.m3_base.specs.Ideal.State.{Grant, State, context_of, act_of, same_act, grant_in, holder, holder_ep}
 use Rattle.m3_base.specs.Ideal.GrantRules.{kernel_id}
-use Rattle.m3_base.specs.Ideal.Step.{number_of}
+use Rattle.m3_base.specs.Ideal.Step.{number_of, is_install_of}
 use Rattle.m3_base.specs.Ideal.Credits.{credits, carries_credit, held_at}
 use Rattle.m3_base.specs.Placement.Routing.{target}
 use Rattle.m3_base.specs.Ideal.Acceptance.{fits, fits_answer, send_of, takes_credit, takes_back, has_room_if, is_answer_for}
-use Rattle.m3_laws.specs.Laws.{limit_of, is_install_of, is_close_of}
-use Rattle.m3_laws.specs.GrantInvariant.{IsHeldAt, FormLawful, form_of, is_open_grant, is_close_sent, is_record_of, CreditsLawful}
+use Rattle.m3_laws.specs.Laws.{limit_of, is_close_of}
+use Rattle.m3_laws.specs.GrantInvariant.{IsHeldAt, FormLawful, form_of, is_open_grant, is_close_sent, CreditsLawful}
 use Rattle.m3_laws.specs.WellFormed.{use_by, use_in, can_get, is_held_at}
 use Rattle.m3_laws.specs.Invariant.{Invariant}
-use Rattle.m3_laws.specs.GrantHolder.{HeldThere}
 use Rattle.m3_laws.proofs.invariant.step.LookUps.{name_found}
 use Rattle.m3_laws.proofs.credits.Counting.{some_at, some_found, one_found}
 use Rattle.m3_laws.proofs.invariant.records.RecordsOfGrants.{record_open, closing_sent, install_free, is_one, one_less}
 use Rattle.m3_laws.proofs.credits.CreditReturns.{Each, each_found, found_lone, form_at}
 use Rattle.m3_laws.proofs.invariant.wellformed.LandKeeps.{covered_inside}
+use Rattle.m3_base.specs.Ideal.GrantHolder.{HeldThere}
 
 some_total : (f : Endpoint → ℕ) (es : List Endpoint) (i : ℕ) → f Free ≡ 0 → f (get_or es i Free) ≤ total f es
 some_total f [] i h = omega (arith, h)
@@ -81,6 +81,25 @@ module _ (s : State) (law : Invariant s) where
       by_grant : (o : Option Grant) → grant_in s.grants g ≡ o → is_close_sent o ≡ true → is_held_at to ep o ≡ true → HeldThere s.grants g to ep
       by_grant None e w h = absurd (cc)
       by_grant (Some y) e w h = record { grant = y; found = e; stands = grind (arith, w); act = grind (arith, nat_tests, h); endpoint = grind (arith, nat_tests, h) }
+
+  -- an Install of the grant that a flying Close closes is for the same activity
+  pub install_aims : (id x : FlightId) (to ep g : ℕ) → flight id s.flights ≡ Some (Packet.Close x to ep g) → (j : FlightId) (q : Packet) → flight j s.flights ≡ Some q → (target q ≡ Some to → is_install_of g q ≡ false) → is_install_of g q ≡ false
+  install_aims id x to ep g find j (Packet.Install y b e f) at only = by_number (number_of f == g) refl
+    where
+      holds : HeldThere s.grants g to ep
+      holds = close_held id x to ep g find
+
+      holder_is : (o : Option Grant) → o ≡ Some holds.grant → IsHeldAt o b e f → b ≡ to
+      holder_is None w k = absurd k
+      holder_is (Some z) w k = let same : z ≡ holds.grant = cc in sym k.act ∙ ap (λ (i : Grant). holder i.line) same ∙ holds.act
+
+      by_number : (d : Bool) → (number_of f == g) ≡ d → (number_of f == g) ≡ false
+      by_number false w = w
+      by_number true w =
+          let n : number_of f ≡ g = grind (arith, nat_tests, w) in
+          let lawful = (law.lawful.placed.installs j (Packet.Install y b e f) at).1 in
+          only (ap (λ i. Some i) (holder_is (grant_in s.grants (number_of f)) (ap (grant_in s.grants) n ∙ holds.found) lawful))
+  install_aims id x to ep g find j q at only = refl
 
   sent_of : (g : ℕ) (x : Grant) → grant_in s.grants g ≡ Some x → is_close_sent (grant_in s.grants g) ≡ true → x.close_sent ≡ true
   sent_of g x e w = let z : is_close_sent (Some x) ≡ true = subst (λ o. is_close_sent o ≡ true) e w in grind (arith, z)

@@ -13,9 +13,10 @@ use Rattle.m3_base.specs.Ideal.ReceiveRecord.{with_fetched, fetched_at, unmarked
 use Rattle.m3_base.specs.Ideal.Issue.{less_one, send, send_refusal, reply, reply_to, reply_refusal, fetch, acknowledge, read, write, unless_refusal, first_of, with_flying_command, next_id, Issued, issue, IssueOutcome, send_packet, fetch_from, after_acknowledge, acknowledge_at, access, access_refusal, may_read, may_write, is_busy}
 use Rattle.m3_base.specs.Ideal.Landing.{flying_at, one_more, endpoints_with_credit}
 use Rattle.m3_base.specs.Ideal.Credits.{gives_back_by}
-use Rattle.m3_laws.proofs.credits.Issue.{in_range, some_is, came_through}
+use Rattle.m3_laws.proofs.credits.Issue.{in_range, came_through}
 use Rattle.m3_laws.proofs.invariant.step.CommandRecordsStay.{Safe, safe, safe-sends, safe-receives, fetched_at-push, fetched_at-without, fetched_at-mark, apart_tokens}
 use Rattle.m3_laws.specs.CommandRecord.{IsRecordFor, CommandHasRecord}
+use Rattle.std.proofs.lemmas.Option.{same_Some}
 
 abbrev pub EachSafe : List Endpoint → List Endpoint → Type 0
 EachSafe es ds = (i : ℕ) → Safe (get_or es i Free) (get_or ds i Free)
@@ -204,8 +205,8 @@ write_effect c ep off payload (Receives r) at none = refusal_effect c _ refl ref
 pub issue_effect : (c : Context) (k : Command) (i : Issued) → issue c k ≡ Some i → flying_at c.next c.flying ≡ None → IssueEffect c i
 issue_effect c (Command.Send ep payload to) i e none = subst (IssueEffect c) (came_through (is_busy c) _ i e) (send_effect c ep payload to (endpoint c ep) refl none)
 issue_effect c (Command.Reply ep token payload) i e none = subst (IssueEffect c) (came_through (is_busy c) _ i e) (reply_effect c ep token payload (endpoint c ep) refl none)
-issue_effect c (Command.Fetch ep) i e none = subst (IssueEffect c) (some_is _ i e) (fetch_effect c ep (endpoint c ep) refl none)
-issue_effect c (Command.Acknowledge ep token) i e none = subst (IssueEffect c) (some_is _ i e) (acknowledge_effect c ep token (endpoint c ep) refl none)
+issue_effect c (Command.Fetch ep) i e none = subst (IssueEffect c) (same_Some _ i e) (fetch_effect c ep (endpoint c ep) refl none)
+issue_effect c (Command.Acknowledge ep token) i e none = subst (IssueEffect c) (same_Some _ i e) (acknowledge_effect c ep token (endpoint c ep) refl none)
 issue_effect c (Command.Read ep off len) i e none = subst (IssueEffect c) (came_through (is_busy c) _ i e) (read_effect c ep off len (endpoint c ep) refl none)
 issue_effect c (Command.Write ep off payload) i e none = subst (IssueEffect c) (came_through (is_busy c) _ i e) (write_effect c ep off payload (endpoint c ep) refl none)
 

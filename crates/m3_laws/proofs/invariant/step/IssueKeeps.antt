@@ -17,22 +17,22 @@ use Rattle.m3_base.proofs.KeyedList.{find-replaced_same}
 use Rattle.m3_base.specs.Ideal.FlightNames.{Apart}
 use Rattle.m3_base.proofs.FlightNames.{flight-new, apart-end, ended}
 use Rattle.m3_laws.proofs.credits.Land.{credits_are}
-use Rattle.m3_laws.proofs.credits.Answer.{after_ending, OnlyFlies, answered_moved, answer_keeps}
-use Rattle.m3_laws.proofs.invariant.step.LookUps.{act_found, apart_found, found_after, same_act-itself, found_ended, found_new, found_own}
-use Rattle.m3_laws.specs.GrantInvariant.{ChildOf, QueueLawful, ContextLawful, PacketLawful, Traffic, GrantInvariant, GrantsLawful, form_of, IsHeldAt, FormLawful}
+use Rattle.m3_laws.proofs.credits.Answer.{OnlyFlies, answered_moved, answer_keeps}
+use Rattle.m3_laws.proofs.invariant.step.LookUps.{apart_found, found_after, found_ended, found_new}
+use Rattle.m3_laws.specs.GrantInvariant.{ChildOf, QueueLawful, ContextLawful, PacketLawful, Traffic, GrantInvariant, GrantsLawful, form_of, IsHeldAt, FormLawful, IsData}
 use Rattle.m3_laws.proofs.invariant.records.RecordsOfGrants.{faces_placed}
 use Rattle.m3_laws.proofs.invariant.records.RecordFormsStay.{orders_ended, issue_faces, answered_faces, orders_new}
-use Rattle.m3_laws.specs.NoConfigInFlight.{IsData}
 use Rattle.m3_laws.proofs.invariant.step.ChangeKeepsTraffic.{credits_keep, packet_stays, acts_put}
 use Rattle.m3_laws.proofs.invariant.records.QueueOwners.{each_set, NewLawful, Owns, issue_owns, fetched-without, fetched-mark}
 use Rattle.m3_base.specs.declared.command.Command.{Command}
 use Rattle.m3_base.specs.Ideal.Issue.{Issued, issue, next_id}
-use Rattle.m3_base.specs.Ideal.Step.{with_packet}
+use Rattle.m3_base.specs.Ideal.Step.{with_packet, after_ending}
 use Rattle.m3_laws.proofs.invariant.step.IssueEffects.{NewPacket, OwnBack, IssueEffect, issue_effect}
 use Rattle.m3_laws.proofs.invariant.step.ChangeOneContext.{Moved, moved_back, credits_issued}
 use Rattle.m3_laws.proofs.credits.Issue.{issue_keeps}
 use Rattle.m3_base.specs.declared.packet.Perm.{Perm}
 use Rattle.m3_laws.specs.CommandRecord.{CommandsHaveRecords, IsRecordFor, CommandHasRecord}
+use Rattle.m3_base.proofs.Activities.{same_act-itself, act_found, found_own}
 
 -- ---- a context of which one command changes
 

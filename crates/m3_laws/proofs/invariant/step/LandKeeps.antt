@@ -17,15 +17,16 @@ use Rattle.m3_base.proofs.KeyedList.{total-replaced, how_many-replaced, total-wi
 use Rattle.m3_base.proofs.FlightNames.{apart-change, apart-end}
 use Rattle.m3_laws.proofs.credits.EndpointWeights.{context_weight}
 use Rattle.m3_laws.proofs.credits.Land.{same_back, same_back-taken, weight-taken, credits_are, credits_change, how_many-agree, carries-put, after_landing}
-use Rattle.m3_laws.proofs.credits.Answer.{weight-with_credit, after_ending}
-use Rattle.m3_laws.proofs.invariant.step.LookUps.{name_found, found_ended, found_changed, found_own}
-use Rattle.m3_laws.specs.GrantInvariant.{HolderIs, ContextLawful, PacketLawful, CreditsLawful, GrantInvariant}
+use Rattle.m3_laws.proofs.credits.Answer.{weight-with_credit}
+use Rattle.m3_laws.proofs.invariant.step.LookUps.{found_ended, found_changed, name_own}
+use Rattle.m3_laws.specs.GrantInvariant.{HolderIs, ContextLawful, PacketLawful, CreditsLawful, GrantInvariant, IsData}
 use Rattle.m3_laws.proofs.credits.Counting.{SameFixedParts, same_fixed_parts}
 use Rattle.m3_laws.proofs.invariant.records.RecordsOfGrants.{faces_placed}
 use Rattle.m3_laws.proofs.invariant.records.RecordFormsStay.{orders_changed, orders_ended, taken_faces, credit_faces}
-use Rattle.m3_laws.specs.NoConfigInFlight.{IsData}
 use Rattle.m3_laws.proofs.credits.CreditReturns.{home_there}
 use Rattle.m3_laws.proofs.invariant.step.ChangeKeepsTraffic.{Leaves, leaves_same, leaves_credit, leaves_taken, data_left, Claimed, credits_keep}
+use Rattle.m3_base.proofs.Activities.{found_own}
+use Rattle.m3_base.specs.Ideal.Step.{after_ending}
 
 -- a credit that flies for a claimed grant finds the grant's record where it goes
 pub home_of : (s : State) → GrantInvariant s → (g to : ℕ) (x : Context) → context_of to s.contexts ≡ Some x → Claimed (grant_in s.grants g) → HolderIs (grant_in s.grants g) to → (id : FlightId) (p : Packet) → flight id s.flights ≡ Some p → carries_credit g s.contexts p ≡ true → has_send g x ≡ true
@@ -41,9 +42,6 @@ module _ (s : State) (law : GrantInvariant s) (id : FlightId) (to ep h : ℕ) (m
   here : context_of x.act s.contexts ≡ Some x
   here = found_own to x s.contexts at
 
-  found : flight (message_id m) s.flights ≡ Some (Packet.Message to ep h m)
-  found = subst (λ z. flight z s.flights ≡ Some (Packet.Message to ep h m)) (name_found id (Packet.Message to ep h m) s.flights find) find
-
   known : PacketLawful s.grants s.contexts (Packet.Message to ep h m)
   known = law.traffic.packets id (Packet.Message to ep h m) find
 
@@ -51,7 +49,7 @@ module _ (s : State) (law : GrantInvariant s) (id : FlightId) (to ep h : ℕ) (m
   ok = law.traffic.contexts x.act x here
 
   packs : (cs : List Context) (answer : Answer) (i : FlightId) (p : Packet) → flight i (change_flight (Packet.Answer (message_id m) answer) s.flights) ≡ Some p → (flight i s.flights ≡ Some p) ⊎ PacketLawful s.grants cs p
-  packs cs answer i p e = either (found_changed i p (Packet.Message to ep h m) (Packet.Answer (message_id m) answer) s.flights found e)
+  packs cs answer i p e = either (found_changed i p (Packet.Message to ep h m) (Packet.Answer (message_id m) answer) s.flights (name_own id (Packet.Message to ep h m) s.flights find) e)
     where
       either : (p ≡ Packet.Answer (message_id m) answer) ⊎ (flight i s.flights ≡ Some p) → (flight i s.flights ≡ Some p) ⊎ PacketLawful s.grants cs p
       either (inl q) = inr (subst (PacketLawful s.grants cs) (sym q) tt)
@@ -59,7 +57,7 @@ module _ (s : State) (law : GrantInvariant s) (id : FlightId) (to ep h : ℕ) (m
 
   landed : (answer : Answer) (d : Context) → context_of d.act s.contexts ≡ Some x → Leaves s.grants x d → SameFixedParts x d → ((g : ℕ) → Claimed (grant_in s.grants g) → credits g (record s { contexts = put_context d s.contexts; flights = change_flight (Packet.Answer (message_id m) answer) s.flights }) ≡ credits g s) → GrantInvariant (record s { contexts = put_context d s.contexts; flights = change_flight (Packet.Answer (message_id m) answer) s.flights })
   landed answer d there l faces same = record {
-    placed = faces_placed s s.memory x d (change_flight (Packet.Answer (message_id m) answer) s.flights) law.placed there faces (orders_changed s.grants s.contexts s.flights law.placed.distinct law.placed.installs (Packet.Message to ep h m) (Packet.Answer (message_id m) answer) found tt tt);
+    placed = faces_placed s s.memory x d (change_flight (Packet.Answer (message_id m) answer) s.flights) law.placed there faces (orders_changed s.grants s.contexts s.flights law.placed.distinct law.placed.installs (Packet.Message to ep h m) (Packet.Answer (message_id m) answer) (name_own id (Packet.Message to ep h m) s.flights find) tt tt);
     traffic = data_left s.grants s.contexts s.flights (change_flight (Packet.Answer (message_id m) answer) s.flights) s.kernel_next x d law.traffic there l (λ i a. apart-change i (Packet.Answer (message_id m) answer) s.flights a) (packs (put_context d s.contexts) answer);
     credits = λ g. credits_keep (grant_in s.grants g) (credits g s) _ (same g) (law.credits g);
   }
@@ -75,13 +73,13 @@ module _ (s : State) (law : GrantInvariant s) (id : FlightId) (to ep h : ℕ) (m
   pub message_lawful : (why : Option Refusal) → land_refusal h m (endpoint x ep) ≡ why → GrantInvariant (after_landing s (land_by ep m x why))
   message_lawful (Some w) e = landed (Answer.Refused w) x here (leaves_same s.grants x ok.stands ok.queues) (same_fixed_parts x) (λ g claim.
       credits_are g (after_landing s (land_by ep m x (Some w)))
-      ∙ credits_change g s.contexts s.flights x x (Packet.Message to ep h m) (Packet.Answer (message_id m) (Answer.Refused w)) (same_back x) here found (omega (arith, ap one (known.0 g)))
+      ∙ credits_change g s.contexts s.flights x x (Packet.Message to ep h m) (Packet.Answer (message_id m) (Answer.Refused w)) (same_back x) here (name_own id (Packet.Message to ep h m) s.flights find) (omega (arith, ap one (known.0 g)))
       ∙ sym (credits_are g s))
   message_lawful None e =
       let there : context_of (after_message ep m x).act s.contexts ≡ Some x = subst (λ z. context_of z s.contexts ≡ Some x) (sym (same_back-taken ep m x).act) here in
       landed (landed_answer m) (after_message ep m x) there (leaves_taken s.grants ep h m x ok.stands ok.queues known.1 e) (taken_faces ep m x) (λ g claim.
       credits_are g (after_landing s (land_by ep m x None))
-      ∙ credits_change g s.contexts s.flights x (after_message ep m x) (Packet.Message to ep h m) (Packet.Answer (message_id m) (landed_answer m)) (same_back-taken ep m x) there found (brought g claim e)
+      ∙ credits_change g s.contexts s.flights x (after_message ep m x) (Packet.Message to ep h m) (Packet.Answer (message_id m) (landed_answer m)) (same_back-taken ep m x) there (name_own id (Packet.Message to ep h m) s.flights find) (brought g claim e)
       ∙ sym (credits_are g s))
 
 -- ---- a credit

@@ -1,33 +1,16 @@
 -- Look-ups of contexts and flights after a change of one.
 use Rattle.std.proofs.Common.{◌≡◌, ℕ, Bool, true, false, List, [], ◌∷◌, Some, None, refl, sym, ◌∙◌, ap, arith, subst, inl, inr}
 use Rattle.std.specs.Prelude.{◌⊎◌}
-use Rattle.std.proofs.lemmas.Bool.Decides.{nat_tests}
 use Rattle.m3_base.specs.declared.packet.Packet.{Packet}
 use Rattle.m3_base.specs.Ideal.Flights.{name_of, same_name, name_before, flight, change_flight, new_flight, end_flight}
 use Rattle.m3_base.specs.Ideal.Context.{Context}
-use Rattle.m3_base.specs.Ideal.State.{context_of, put_context, act_of, same_act, act_before}
-use Rattle.m3_base.proofs.KeyedList.{find-replaced_other, find-replaced_same}
+use Rattle.m3_base.specs.Ideal.State.{context_of, put_context, same_act}
+use Rattle.m3_base.proofs.KeyedList.{find-replaced_same}
 use Rattle.m3_base.specs.declared.ids.FlightId.{FlightId}
 use Rattle.m3_base.specs.Ideal.FlightNames.{Apart, Distinct}
 use Rattle.m3_base.proofs.FlightNames.{same_name-is, flight-new, same_name-itself, flight-change}
 use Rattle.m3_base.proofs.FlightOrder.{find-new}
-
-pub same_act-is : (a b : ℕ) → same_act a b ≡ true → a ≡ b
-same_act-is a b h = grind (arith, nat_tests)
-
-pub act_joins : (a b c : ℕ) → same_act a c ≡ true → same_act b c ≡ true → same_act a b ≡ true
-act_joins a b c p q = grind (arith, nat_tests)
-
-pub same_act-itself : (a : ℕ) → same_act a a ≡ true
-same_act-itself a = grind (arith, nat_tests)
-
-pub act_found : (a : ℕ) (c : Context) (cs : List Context) → context_of a cs ≡ Some c → a ≡ c.act
-act_found a c [] e = absurd (cc)
-act_found a c (x ∷ cs) e = grind (arith, nat_tests, act_found a c cs)
-
--- a context that was found stands under its own activity
-pub found_own : (a : ℕ) (c : Context) (cs : List Context) → context_of a cs ≡ Some c → context_of c.act cs ≡ Some c
-found_own a c cs at = subst (λ z. context_of z cs ≡ Some c) (act_found a c cs at) at
+use Rattle.m3_base.proofs.Activities.{same_act-is, context-put_same, context-put_other}
 
 pub name_found : (id : FlightId) (p : Packet) (fs : List Packet) → flight id fs ≡ Some p → id ≡ name_of p
 name_found id p [] e = absurd (cc)
@@ -37,6 +20,9 @@ name_found id p (x ∷ fs) e = by_case (same_name id (name_of x)) refl (name_fou
     by_case true w ih = let same : x ≡ p = grind (arith, e, w) in same_name-is id (name_of x) w ∙ ap name_of same
     by_case false w ih = ih (grind (arith, e, w))
 
+pub name_own : (id : FlightId) (p : Packet) (fs : List Packet) → flight id fs ≡ Some p → flight (name_of p) fs ≡ Some p
+name_own id p fs find = subst (λ z. flight z fs ≡ Some p) (name_found id p fs find) find
+
 -- a context after one was put in its place
 pub found_after : (a : ℕ) (x c d : Context) (cs : List Context) → context_of d.act cs ≡ Some c → context_of a (put_context d cs) ≡ Some x → ((a ≡ d.act) × (x ≡ d)) ⊎ ((same_act a d.act ≡ false) × (context_of a cs ≡ Some x))
 found_after a x c d cs at e = by_case (same_act a d.act) refl
@@ -44,10 +30,10 @@ found_after a x c d cs at e = by_case (same_act a d.act) refl
     by_case : (b : Bool) → same_act a d.act ≡ b → ((a ≡ d.act) × (x ≡ d)) ⊎ ((same_act a d.act ≡ false) × (context_of a cs ≡ Some x))
     by_case true w =
         let q = same_act-is a d.act w in
-        let r : context_of d.act (put_context d cs) ≡ Some d = find-replaced_same act_of same_act act_before d c cs (same_act-itself d.act) at in
+        let r : context_of d.act (put_context d cs) ≡ Some d = context-put_same c d cs at in
         let t : context_of d.act (put_context d cs) ≡ Some x = subst (λ z. context_of z (put_context d cs) ≡ Some x) q e in
         inl (q, cc)
-    by_case false w = inr (w, sym (find-replaced_other act_of same_act act_before a d cs act_joins w) ∙ e)
+    by_case false w = inr (w, sym (context-put_other a d cs w) ∙ e)
 
 pub apart_found : (n id : FlightId) (p : Packet) (fs : List Packet) → Apart n fs → flight id fs ≡ Some p → same_name n (name_of p) ≡ false
 apart_found n id p fs a f = by_case (same_name n (name_of p)) refl

@@ -9,17 +9,16 @@ use Rattle.m3_base.specs.declared.order.GrantLine.{GrantLine}
 use Rattle.m3_base.specs.Lists.Counting.{one, how_many}
 use Rattle.m3_base.specs.Ideal.Flights.{kernel, flight, end_flight, new_flight}
 use Rattle.m3_base.specs.Ideal.Context.{Free, Context, endpoint, with_endpoint, new_endpoint, new_context}
-use Rattle.m3_base.specs.Ideal.Landing.{has_closing}
-use Rattle.m3_base.specs.Ideal.State.{Standing, Live, Closing, Closed, Done, Grant, State, context_of, put_context, act_of, same_act, act_before, grant_in, holder, holder_ep, parent_of, parent_in, undone, is_done, new_context_in}
-use Rattle.m3_base.specs.Ideal.GrantRules.{form, with_grant_made, kernel_id, new_grant, holds_at, is_above_closing}
+use Rattle.m3_base.specs.Ideal.Landing.{has_closing, is_record_of}
+use Rattle.m3_base.specs.Ideal.State.{Standing, Live, Closing, Closed, Done, Grant, State, context_of, put_context, act_of, same_act, act_before, grant_in, holder, holder_ep, parent_of, parent_in, undone, is_done, new_context_in, is_open, DistinctActs}
+use Rattle.m3_base.specs.Ideal.GrantRules.{form, with_grant_made, kernel_id, new_grant, holds_at, is_above_closing, new_install}
 use Rattle.m3_base.specs.Ideal.Credits.{carries_credit, credits}
 use Rattle.m3_base.proofs.KeyedList.{total-inserted}
 use Rattle.m3_base.proofs.FlightNames.{same_name-itself}
 use Rattle.m3_laws.proofs.credits.EndpointWeights.{context_weight}
 use Rattle.m3_laws.proofs.credits.Land.{credits_are}
-use Rattle.m3_laws.proofs.credits.Answer.{after_ending}
-use Rattle.m3_laws.specs.GrantInvariant.{is_open_grant, is_close_sent, KeepsOpen, QueueLawful, ContextLawful, ActsDistinct, CreditsLawful, GrantInvariant, is_record_of, FormLawful, form_of}
-use Rattle.m3_laws.specs.Laws.{is_open, AllFit, CreditLaw, RecordLaw, ChildrenLaw}
+use Rattle.m3_laws.specs.GrantInvariant.{is_open_grant, is_close_sent, KeepsOpen, QueueLawful, ContextLawful, CreditsLawful, GrantInvariant, FormLawful, form_of}
+use Rattle.m3_laws.specs.Laws.{AllFit, CreditLaw, RecordLaw, ChildrenLaw}
 use Rattle.m3_laws.proofs.grants.GrantList.{grant_added}
 use Rattle.m3_laws.proofs.invariant.step.ChangeKeepsTraffic.{credits_keep}
 use Rattle.m3_base.specs.declared.step.Step.{Step}
@@ -27,13 +26,14 @@ use Rattle.m3_base.specs.declared.setup_line.SetupLine.{SetupLine}
 use Rattle.m3_base.specs.Ideal.Opening.{opening, with_line, with_lines, state_with_grant, contexts_with_record}
 use Rattle.m3_base.specs.Ideal.MessageTraces.{final}
 use Rattle.m3_base.proofs.FlightOrder.{find-new}
-use Rattle.m3_laws.proofs.invariant.step.LookUps.{same_act-is}
 use Rattle.m3_base.specs.Setup.Rules.{SetupValue, IsValid}
 use Rattle.m3_base.proofs.SetupObligations.{valid_obeys}
 use Rattle.m3_base.specs.Setup.Obligations.{LineIsOk, LinesAreOk, Declared}
 use Rattle.m3_laws.proofs.invariant.step.OrdersKeep.{made_lawful, install_lawful}
 use Rattle.m3_laws.proofs.invariant.step.StepKeeps.{run_lawful}
 use Rattle.m3_laws.proofs.invariant.records.RecordsOfGrants.{record_open}
+use Rattle.m3_base.proofs.Activities.{same_act-is}
+use Rattle.m3_base.specs.Ideal.Step.{after_ending}
 
 -- a state of the setup: nothing flies, and each grant is live
 pub record Early (s : State) : Type 0 where
@@ -82,14 +82,14 @@ none_inserted : (a : ℕ) (d : Context) (cs : List Context) → same_act a d.act
 none_inserted a d [] w n = grind (arith, w)
 none_inserted a d (y ∷ ys) w n = grind (arith, w, n, none_inserted a d ys w)
 
-acts_inserted : (d : Context) (cs : List Context) → context_of d.act cs ≡ None → ActsDistinct cs → ActsDistinct (new_context_in d cs)
+acts_inserted : (d : Context) (cs : List Context) → context_of d.act cs ≡ None → DistinctActs cs → DistinctActs (new_context_in d cs)
 acts_inserted d [] n h = (refl, tt)
 acts_inserted d (y ∷ ys) n h = by_order (nat_lt d.act y.act) (acts_inserted d ys (grind (arith, n)) h.1)
   where
     apart : same_act y.act d.act ≡ false
     apart = grind (arith, nat_tests, n)
 
-    by_order : (b : Bool) → ActsDistinct (new_context_in d ys) → ActsDistinct (if b then d ∷ y ∷ ys else y ∷ new_context_in d ys)
+    by_order : (b : Bool) → DistinctActs (new_context_in d ys) → DistinctActs (if b then d ∷ y ∷ ys else y ∷ new_context_in d ys)
     by_order true ih = (n, h)
     by_order false ih = (none_inserted y.act d ys apart h.0, ih)
 
@@ -169,16 +169,13 @@ module _ (s : State) (line : GrantLine) (f : Fresh) (early : Early s) (inside : 
   the_made : GrantInvariant (with_grant_made s line f)
   the_made = made_lawful s line f early.law (subst (λ z. form (length s.grants + 1) line z ≡ Some f) (sym facts.0) is_form) facts.1 slot inside
 
-  abbrev its_install : Packet
-  its_install = Packet.Install (kernel_id s) (holder line) (holder_ep line) f
+  one_flight : new_flight (new_install s line f) s.flights ≡ (new_install s line f) ∷ []
+  one_flight = ap (new_flight (new_install s line f)) early.flights
 
-  one_flight : new_flight its_install s.flights ≡ its_install ∷ []
-  one_flight = ap (new_flight its_install) early.flights
+  there : flight (kernel_id s) (new_flight (new_install s line f) s.flights) ≡ Some (new_install s line f)
+  there = find-new (new_install s line f) s.flights (early.law.traffic.orders s.kernel_next (omega arith))
 
-  there : flight (kernel_id s) (new_flight its_install s.flights) ≡ Some its_install
-  there = find-new its_install s.flights (early.law.traffic.orders s.kernel_next (omega arith))
-
-  none_left : end_flight (kernel_id s) (new_flight its_install s.flights) ≡ []
+  none_left : end_flight (kernel_id s) (new_flight (new_install s line f) s.flights) ≡ []
   none_left = ap (end_flight (kernel_id s)) one_flight ∙ grind (arith, same_name-itself (kernel_id s))
 
   new_live : (g : ℕ) (x : Grant) → grant_in (s.grants ++ new_grant line f ∷ []) g ≡ Some x → x.standing ≡ Live

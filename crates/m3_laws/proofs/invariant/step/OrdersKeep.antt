@@ -13,26 +13,27 @@ use Rattle.m3_base.specs.Lists.Counting.{how_many}
 use Rattle.m3_base.specs.Ideal.Flights.{kernel, flight, end_flight, new_flight, same_name, name_of}
 use Rattle.m3_base.specs.Ideal.Context.{Fetched, Endpoint, Free, Sends, Receives, Reaches, Context, endpoint, with_endpoint, new_endpoint}
 use Rattle.m3_base.specs.Ideal.Landing.{closed_at, has_live, has_closing, flies_at}
-use Rattle.m3_base.specs.Ideal.State.{Standing, Live, Closing, Closed, Done, Grant, State, context_of, put_context, act_of, same_act, act_before, grant_in, holder, holder_ep, parent_of, parent_in, undone, is_done}
-use Rattle.m3_base.specs.Ideal.GrantRules.{form, with_grant_made, after_revoke, may_close, close_sent, change_grant, kernel_id, new_grant, holds_at, is_above_closing, with_root_closing, closing_where, marks_under, or_false, to_closing}
-use Rattle.m3_base.specs.Ideal.Step.{number_of}
+use Rattle.m3_base.specs.Ideal.State.{Standing, Live, Closing, Closed, Done, Grant, State, context_of, put_context, act_of, same_act, act_before, grant_in, holder, holder_ep, parent_of, parent_in, undone, is_done, is_open}
+use Rattle.m3_base.specs.Ideal.GrantRules.{form, with_grant_made, after_revoke, may_close, close_sent, change_grant, kernel_id, new_grant, holds_at, is_above_closing, with_root_closing, closing_where, marks_under, or_false, to_closing, to_root, to_sent, to_done}
+use Rattle.m3_base.specs.Ideal.Step.{number_of, after_ending}
 use Rattle.m3_base.specs.Ideal.Credits.{carries_credit, queued_credits, credits, is_sent_by, is_owed}
 use Rattle.m3_base.proofs.KeyedList.{total-replaced}
 use Rattle.m3_base.specs.Ideal.FlightNames.{Apart}
 use Rattle.m3_base.proofs.FlightNames.{flight-new, apart-end}
 use Rattle.m3_laws.proofs.credits.EndpointWeights.{weight, context_weight}
 use Rattle.m3_laws.proofs.credits.Land.{credits_are, how_many-agree, carries-put}
-use Rattle.m3_laws.proofs.credits.Answer.{after_ending}
 use Rattle.m3_laws.proofs.credits.Orders.{make_credits, close_credits, kernel_ended, install_weight, close_weight, free_weight}
-use Rattle.m3_laws.proofs.invariant.step.LookUps.{found_ended, found_new, found_own}
+use Rattle.m3_laws.proofs.invariant.step.LookUps.{found_ended, found_new}
 use Rattle.m3_laws.specs.GrantInvariant.{is_ready, is_open_grant, is_close_sent, KeepsOpen, HolderIs, ChildOf, AllSentTo, AllFetchedTo, QueueLawful, PacketLawful, Traffic, CreditsLawful, GrantInvariant, GrantsLawful}
-use Rattle.m3_laws.specs.Laws.{is_open, limit_of}
+use Rattle.m3_laws.specs.Laws.{limit_of}
 use Rattle.m3_laws.proofs.invariant.records.RecordsOfGrants.{install_free, install_inside, install_placed}
 use Rattle.m3_laws.proofs.invariant.records.ClosingRecords.{close_placed, closed_placed, was_sent, was_open, to_closed}
-use Rattle.m3_laws.proofs.invariant.records.OrdersKeepRecords.{revoke_placed, done_placed, sent_placed, made_placed, form_number, none_past, to_done, to_sent, to_root}
-use Rattle.m3_laws.proofs.grants.GrantList.{Changes, at_one, grant_changed, grant_added, grant_past}
+use Rattle.m3_laws.proofs.invariant.records.OrdersKeepRecords.{revoke_placed, done_placed, sent_placed, made_placed, form_number, none_past}
+use Rattle.m3_laws.proofs.grants.GrantList.{Changes, at_one, grant_changed, grant_added}
 use Rattle.m3_laws.proofs.grants.OrdersKeepGrants.{closing_changes, one_changes}
 use Rattle.m3_laws.proofs.invariant.step.ChangeKeepsTraffic.{leaves_install, leaves_close, leaves_free, data_left, Grows, data_grown, Claimed, credits_keep, IsOrder, order_lawful}
+use Rattle.m3_base.proofs.Activities.{found_own}
+use Rattle.m3_base.proofs.GrantsByNumber.{grant_past}
 
 -- ---- an Install lands
 

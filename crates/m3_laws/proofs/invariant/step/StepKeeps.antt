@@ -11,22 +11,21 @@ use Rattle.m3_base.specs.Ideal.Flights.{flight}
 use Rattle.m3_base.specs.Ideal.Context.{Flying, Free, Context, endpoint, with_endpoint}
 use Rattle.m3_base.specs.Ideal.Landing.{land_refusal, flying_at, closed_at, has_live, has_closing, flies_at, bytes_at, written_at}
 use Rattle.m3_base.specs.Ideal.State.{Standing, Live, Closing, Closed, Done, Grant, State, context_of, put_context, grant_in, holder, holder_ep, parent_of, parent_in, undone}
-use Rattle.m3_base.specs.Ideal.GrantRules.{form, make_refusal, may_close, close_sent, change_grant, kernel_id, is_outside, fresh_of, is_more, is_crowded, revoke_refusal, first_no, is_closed_grant}
-use Rattle.m3_laws.proofs.credits.Answer.{after_ending}
-use Rattle.m3_laws.proofs.invariant.step.LookUps.{name_found, found_own}
+use Rattle.m3_base.specs.Ideal.GrantRules.{form, make_refusal, may_close, close_sent, change_grant, kernel_id, is_outside, fresh_of, is_more, is_crowded, revoke_refusal, first_no, is_closed_grant, to_done}
+use Rattle.m3_laws.proofs.invariant.step.LookUps.{name_found}
 use Rattle.m3_laws.specs.GrantInvariant.{GrantInvariant}
 use Rattle.m3_laws.proofs.invariant.records.ClosingRecords.{to_closed}
-use Rattle.m3_laws.proofs.invariant.records.OrdersKeepRecords.{to_done}
 use Rattle.m3_base.specs.declared.command.Command.{Command}
 use Rattle.m3_base.specs.declared.step.Step.{Step}
 use Rattle.m3_base.specs.declared.event.No.{No}
 use Rattle.m3_base.specs.Ideal.Issue.{Issued, issue}
-use Rattle.m3_base.specs.Ideal.Step.{Starts_closing, Closes_endpoint, Sends_close, Frees, Finishes, IdealResult, ideal_step, issue_in, issued_in, await_in, message_in, credit_in, install_in, close_in, land_in, settle_in, answer_in, answered_in, make_in, revoke_in, send_close_in, closed_in, free_in, done_in, step_to, make_for}
+use Rattle.m3_base.specs.Ideal.Step.{Starts_closing, Closes_endpoint, Sends_close, Frees, Finishes, IdealResult, ideal_step, issue_in, issued_in, await_in, message_in, credit_in, install_in, close_in, land_in, settle_in, answer_in, answered_in, make_in, revoke_in, send_close_in, closed_in, free_in, done_in, step_to, make_for, after_ending}
 use Rattle.m3_base.specs.Ideal.MessageTraces.{state_after_steps, final}
 use Rattle.m3_laws.specs.Laws.{Fits, AllFit}
 use Rattle.m3_laws.proofs.invariant.step.LandKeeps.{message_lawful, credit_lawful, served_lawful}
 use Rattle.m3_laws.proofs.invariant.step.OrdersKeep.{install_lawful, close_lawful, revoke_lawful, done_lawful, closed_lawful, sent_lawful, made_lawful}
 use Rattle.m3_laws.proofs.invariant.step.IssueKeeps.{issue_lawful, answer_lawful}
+use Rattle.m3_base.proofs.Activities.{found_own}
 
 abbrev pub AllLawful : Option IdealResult → Type 0
 AllLawful None = Unit {0}

@@ -12,11 +12,13 @@ use Rattle.m3_base.specs.Ideal.Landing.{grant_of, flying_at}
 use Rattle.m3_base.specs.Ideal.State.{Grant, State, grant_in, context_of, put_context, act_of, same_act, act_before}
 use Rattle.m3_base.specs.Ideal.Step.{number_of}
 use Rattle.m3_base.proofs.KeyedList.{find-replaced_same, find-replaced_other}
-use Rattle.m3_laws.proofs.invariant.step.LookUps.{same_act-is, act_joins, same_act-itself, found_after}
+use Rattle.m3_laws.proofs.invariant.step.LookUps.{found_after}
 use Rattle.m3_laws.specs.GrantInvariant.{form_of}
 use Rattle.m3_laws.proofs.credits.Counting.{SameFixedParts, same_form}
-use Rattle.m3_laws.proofs.grants.GrantList.{Changes, grant_added, grant_past}
+use Rattle.m3_laws.proofs.grants.GrantList.{Changes, grant_added}
 use Rattle.m3_laws.specs.WellFormed.{use_by, use_of, expects, has_valid_queues, is_covered, is_held_at, is_sent_as, is_entitled, WellFormedPacket, WellFormedContext, WellFormed}
+use Rattle.m3_base.proofs.Activities.{same_act-is, same_act-itself, same_act-joins}
+use Rattle.m3_base.proofs.GrantsByNumber.{grant_past}
 
 -- ---- what commands use
 
@@ -38,7 +40,7 @@ pub use_put : (cs : List Context) (c d : Context) (id : FlightId) → context_of
 use_put cs c d id at h = by_act (same_act id.issuer d.act) refl
   where
     by_act : (b : Bool) → same_act id.issuer d.act ≡ b → use_of (put_context d cs) id ≡ use_of cs id
-    by_act false e = rw (find-replaced_other act_of same_act act_before id.issuer d cs act_joins e) refl
+    by_act false e = rw (find-replaced_other act_of same_act act_before id.issuer d cs same_act-joins e) refl
     by_act true e = rw (same_act-is id.issuer d.act e, find-replaced_same act_of same_act act_before d c cs (same_act-itself d.act) at, at) (h e)
 
 -- ---- grants that keep their lines and forms

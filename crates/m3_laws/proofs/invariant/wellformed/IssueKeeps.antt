@@ -14,15 +14,17 @@ use Rattle.m3_base.specs.Ideal.Issue.{IssueOutcome, Issued, less_one, send, send
 use Rattle.m3_base.specs.Ideal.Landing.{grant_of, flying_at}
 use Rattle.m3_base.specs.Ideal.State.{Grant, grant_in}
 use Rattle.m3_base.specs.Ideal.Step.{number_of}
-use Rattle.m3_base.specs.Ideal.Acceptance.{is_between, is_grant_number, is_reply_place, is_message, is_form}
+use Rattle.m3_base.specs.Ideal.Acceptance.{is_grant_number, is_reply_place, is_message, is_form}
 use Rattle.m3_base.specs.Ideal.Flights.{kernel}
-use Rattle.m3_laws.proofs.credits.Issue.{some_is, came_through}
+use Rattle.m3_laws.proofs.credits.Issue.{came_through}
 use Rattle.m3_laws.proofs.invariant.step.IssueEffects.{flying_at-new}
 use Rattle.m3_laws.specs.GrantInvariant.{form_of, fixed_part}
 use Rattle.m3_laws.proofs.credits.Counting.{SameFixedParts, some_at}
 use Rattle.m3_laws.proofs.invariant.records.RecordFormsStay.{face_put}
 use Rattle.m3_laws.proofs.invariant.wellformed.ChangeKeeps.{same_grant, tidy_set}
 use Rattle.m3_laws.specs.WellFormed.{use_by, expects, is_well_formed, are_valid_messages, are_valid_fetched, has_valid_queues, is_sent_as, is_entitled, uses_send, uses_read, uses_write, WellFormedContext}
+use Rattle.std.proofs.lemmas.Option.{same_Some}
+use Rattle.m3_base.specs.Limits.{is_within}
 
 -- a record's grant, with its form and number in their ranges
 pub record Recorded (gs : List Grant) (f : Fresh) : Type 0 where
@@ -96,7 +98,7 @@ module _ (gs : List Grant) (c : Context) (ready : Ready gs c) where
   send_message : (ep : ℕ) (payload : List ℕ) (to : Option ℕ) (r : SendRecord) → endpoint c ep ≡ Sends r → send_refusal c r payload to ≡ None → is_well_formed (send_packet c r payload to) ≡ true
   send_message ep payload to r at w =
       let k = ready.records ep (Fresh.Send r.grant r.to r.to_ep r.to_grant r.label r.size r.limit) (ap form_of at) in
-      let size : is_between 1 512 r.size ≡ true = grind (arith, k.proper) in
+      let size : is_within 1 512 r.size ≡ true = grind (arith, k.proper) in
       let number : is_grant_number r.grant ≡ true = k.number in
       let place = reply_place to (grind (arith, w)) in
       let short : nat_lt r.size (length payload) ≡ false = grind (arith, w) in
@@ -233,11 +235,8 @@ module _ (gs : List Grant) (c : Context) (ready : Ready gs c) where
 
   -- ---- read and write
 
-  abbrev range_of : MemoryRecord → Fresh
-  range_of r = Fresh.Memory r.grant r.start r.length r.perm
-
-  recorded_range : (ep : ℕ) (r : MemoryRecord) → endpoint c ep ≡ Reaches r → Recorded gs (range_of r)
-  recorded_range ep r at = ready.records ep (range_of r) (ap form_of at)
+  recorded_range : (ep : ℕ) (r : MemoryRecord) → endpoint c ep ≡ Reaches r → Recorded gs (Fresh.Memory r.grant r.start r.length r.perm)
+  recorded_range ep r at = ready.records ep (Fresh.Memory r.grant r.start r.length r.perm) (ap form_of at)
 
   read_does : (ep off len : ℕ) (r : MemoryRecord) → endpoint c ep ≡ Reaches r → (why : Option Refusal) → access_refusal r off len (may_read r.perm) ≡ why → Emits gs c (unless_refusal why c (access c Reading ep (Packet.Read (next_id c) r.grant (r.start + off) (replicate len 0))))
   read_does ep off len r at (Some why) w = stays gs c ready _ refl refl
@@ -294,7 +293,7 @@ module _ (gs : List Grant) (c : Context) (ready : Ready gs c) where
   pub issue_emits : (k : Command) (i : Issued) → issue c k ≡ Some i → Emits gs c i
   issue_emits (Command.Send ep payload to) i e = subst (Emits gs c) (came_through (is_busy c) _ i e) (send_emits gs c ready ep payload to (endpoint c ep) refl)
   issue_emits (Command.Reply ep token payload) i e = subst (Emits gs c) (came_through (is_busy c) _ i e) (reply_emits ep token payload (endpoint c ep) refl)
-  issue_emits (Command.Fetch ep) i e = subst (Emits gs c) (some_is _ i e) (fetch_emits ep (endpoint c ep) refl)
-  issue_emits (Command.Acknowledge ep token) i e = subst (Emits gs c) (some_is _ i e) (acknowledge_emits ep token (endpoint c ep) refl)
+  issue_emits (Command.Fetch ep) i e = subst (Emits gs c) (same_Some _ i e) (fetch_emits ep (endpoint c ep) refl)
+  issue_emits (Command.Acknowledge ep token) i e = subst (Emits gs c) (same_Some _ i e) (acknowledge_emits ep token (endpoint c ep) refl)
   issue_emits (Command.Read ep off len) i e = subst (Emits gs c) (came_through (is_busy c) _ i e) (read_emits ep off len (endpoint c ep) refl)
   issue_emits (Command.Write ep off payload) i e = subst (Emits gs c) (came_through (is_busy c) _ i e) (write_emits ep off payload (endpoint c ep) refl)

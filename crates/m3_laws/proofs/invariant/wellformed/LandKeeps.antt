@@ -14,15 +14,13 @@ use Rattle.m3_base.specs.Ideal.Flights.{flight, name_of, same_name, change_fligh
 use Rattle.m3_base.specs.Ideal.Context.{Kind, Endpoint, Free, Sends, Receives, Reaches, Context, endpoint, with_endpoint}
 use Rattle.m3_base.specs.Ideal.Issue.{Issued, issue, next_id}
 use Rattle.m3_base.specs.Ideal.Landing.{flying_at, land_refusal, land_by, landed_answer, message_id, after_message, with_message, endpoints_with_credit, sends_by, more_at, with_credit, written_at}
-use Rattle.m3_base.specs.Ideal.State.{Grant, State, grant_in, context_of, put_context, act_of, same_act, act_before}
-use Rattle.m3_base.specs.Ideal.Step.{with_packet, number_of}
+use Rattle.m3_base.specs.Ideal.State.{Grant, State, grant_in, context_of, put_context}
+use Rattle.m3_base.specs.Ideal.Step.{with_packet, number_of, after_ending}
 use Rattle.m3_base.specs.Ideal.Credits.{covers}
 use Rattle.m3_base.specs.Ideal.Acceptance.{is_form, is_message, is_land_refusal}
-use Rattle.m3_base.proofs.KeyedList.{find-replaced_same}
 use Rattle.m3_base.specs.Ideal.FlightNames.{Apart}
-use Rattle.m3_laws.proofs.invariant.step.LookUps.{same_act-itself, name_found, apart_found, found_ended, found_new, found_changed, found_own}
+use Rattle.m3_laws.proofs.invariant.step.LookUps.{apart_found, found_ended, found_new, found_changed, name_own}
 use Rattle.m3_laws.proofs.credits.Land.{after_landing}
-use Rattle.m3_laws.proofs.credits.Answer.{after_ending}
 use Rattle.m3_laws.proofs.invariant.step.IssueEffects.{NewPacket, IssueEffect, issue_effect}
 use Rattle.m3_laws.specs.GrantInvariant.{GrantInvariant, IsHeldAt, FormLawful, form_of}
 use Rattle.m3_laws.proofs.credits.Counting.{SameFixedParts, same_fixed_parts}
@@ -30,6 +28,7 @@ use Rattle.m3_laws.proofs.invariant.records.RecordFormsStay.{issue_faces, taken_
 use Rattle.m3_laws.proofs.invariant.wellformed.ChangeKeeps.{same_grant, use_same, use_put, proper_put, Follows, tidy_set}
 use Rattle.m3_laws.proofs.invariant.wellformed.IssueKeeps.{Recorded, Ready, Emits, NewProper, issue_emits, messages_push}
 use Rattle.m3_laws.specs.WellFormed.{CommandUse, use_by, use_of, use_in, can_get, expects, uses_send, uses_reply, is_well_formed, has_valid_queues, is_covered, is_entitled, is_inside, WellFormedPacket, WellFormedContext, WellFormedGrant, WellFormed}
+use Rattle.m3_base.proofs.Activities.{found_same, context-put_same}
 
 -- ---- a command
 
@@ -72,9 +71,6 @@ module _ (s : State) (a : ℕ) (k : Command) (c : Context) (i : Issued) (law : G
   faces : SameFixedParts c i.context
   faces = issue_faces c k i e
 
-  there : context_of i.context.act s.contexts ≡ Some c
-  there = subst (λ z. context_of z s.contexts ≡ Some c) (sym does.act) (found_own a c s.contexts at)
-
   free : Apart (record { issuer = c.act; number = c.next }) s.flights
   free = (law.traffic.contexts a c at).apart c.next (omega arith)
 
@@ -82,13 +78,13 @@ module _ (s : State) (a : ℕ) (k : Command) (c : Context) (i : Issued) (law : G
   old id p f =
       let apart : same_name (record { issuer = c.act; number = c.next }) (name_of p) ≡ false = apart_found (record { issuer = c.act; number = c.next }) id p s.flights free f in
       let same = does.act in
-      use_put s.contexts c i.context (name_of p) there (λ w.
+      use_put s.contexts c i.context (name_of p) (found_same s.contexts a c i.context at does.act) (λ w.
       let ne : (name_of p).number ≢ c.next = (λ q. grind (arith, nat_tests, apart, w, same, q)) in
       ap (use_by i.context) (does.others (name_of p).number ne) ∙ use_same c i.context (same_grant c i.context faces) (flying_at (name_of p).number c.flying))
 
   new : (p : Packet) → name_of p ≡ next_id c → (is_well_formed p ≡ true) × ((expects (use_by i.context (flying_at c.next i.context.flying)) p ≡ true) × (is_entitled s.grants p ≡ true)) → WellFormedPacket s.grants (put_context i.context s.contexts) p
   new p name h =
-      let here : context_of i.context.act (put_context i.context s.contexts) ≡ Some i.context = find-replaced_same act_of same_act act_before i.context c s.contexts (same_act-itself i.context.act) there in
+      let here : context_of i.context.act (put_context i.context s.contexts) ≡ Some i.context = context-put_same c i.context s.contexts (found_same s.contexts a c i.context at does.act) in
       let found : context_of c.act (put_context i.context s.contexts) ≡ Some i.context = subst (λ z. context_of z (put_context i.context s.contexts) ≡ Some i.context) does.act here in
       let used : use_of (put_context i.context s.contexts) (name_of p) ≡ use_by i.context (flying_at c.next i.context.flying) = ap (use_of (put_context i.context s.contexts)) name ∙ ap (use_in c.next) found in
       record { numbers = h.0; command = ap (λ z. expects z p) used ∙ h.1.0; entitled = h.1.1 }
@@ -105,7 +101,7 @@ module _ (s : State) (a : ℕ) (k : Command) (c : Context) (i : Issued) (law : G
           by_new (inr z) = inl (z, old id p z)
 
   pub issue_proper : WellFormed (record s { contexts = put_context i.context s.contexts; flights = with_packet i.packet s.flights })
-  issue_proper = proper_put s c i.context (with_packet i.packet s.flights) ok there emits.context follows
+  issue_proper = proper_put s c i.context (with_packet i.packet s.flights) ok (found_same s.contexts a c i.context at does.act) emits.context follows
 
 -- ---- what landings leave of a context
 
@@ -122,11 +118,8 @@ uses_stay_fixed c d faces fly proper = record {
   proper = proper;
 }
 
-there_of : (s : State) (to : ℕ) (c d : Context) → context_of to s.contexts ≡ Some c → d.act ≡ c.act → context_of d.act s.contexts ≡ Some c
-there_of s to c d at same = subst (λ z. context_of z s.contexts ≡ Some c) (sym same) (found_own to c s.contexts at)
-
 pub uses_after : (s : State) (to : ℕ) (c d : Context) → context_of to s.contexts ≡ Some c → UsesStay c d → (id : FlightId) → use_of (put_context d s.contexts) id ≡ use_of s.contexts id
-uses_after s to c d at r id = use_put s.contexts c d id (there_of s to c d at r.act) (λ w. r.uses id.number)
+uses_after s to c d at r id = use_put s.contexts c d id (found_same s.contexts to c d at r.act) (λ w. r.uses id.number)
 
 tidy_joined : (h : ℕ) (m : Message) (e : Endpoint) → is_message m ≡ true → has_valid_queues e ≡ true → has_valid_queues (with_message m e) ≡ true
 tidy_joined h m Free k t = refl
@@ -172,7 +165,7 @@ uses_stay_same c p = uses_stay_fixed c c (same_fixed_parts c) refl p
 -- ---- a flight ends, and one context changes
 
 pub proper_ended : (s : State) (to : ℕ) (c d : Context) (id : FlightId) → GrantInvariant s → WellFormed s → context_of to s.contexts ≡ Some c → UsesStay c d → WellFormed (after_ending s id d)
-proper_ended s to c d id law ok at r = proper_put s c d (end_flight id s.flights) ok (there_of s to c d at r.act) r.proper (λ i p e. inl (found_ended id i p s.flights law.placed.distinct e, uses_after s to c d at r (name_of p)))
+proper_ended s to c d id law ok at r = proper_put s c d (end_flight id s.flights) ok (found_same s.contexts to c d at r.act) r.proper (λ i p e. inl (found_ended id i p s.flights law.placed.distinct e, uses_after s to c d at r (name_of p)))
 
 -- ---- a message
 
@@ -200,11 +193,8 @@ module _ (s : State) (law : GrantInvariant s) (ok : WellFormed s) (id : FlightId
   known : WellFormedPacket s.grants s.contexts (Packet.Message to ep h m)
   known = ok.packets id (Packet.Message to ep h m) find
 
-  found : flight (message_id m) s.flights ≡ Some (Packet.Message to ep h m)
-  found = subst (λ z. flight z s.flights ≡ Some (Packet.Message to ep h m)) (name_found id (Packet.Message to ep h m) s.flights find) find
-
   landed : (answer : Answer) (d : Context) → UsesStay x d → can_get answer (use_of s.contexts (message_id m)) ≡ true → WellFormed (record s { contexts = put_context d s.contexts; flights = change_flight (Packet.Answer (message_id m) answer) s.flights })
-  landed answer d r g = proper_put s x d (change_flight (Packet.Answer (message_id m) answer) s.flights) ok (there_of s to x d at r.act) r.proper (λ i p e. either i p (found_changed i p (Packet.Message to ep h m) (Packet.Answer (message_id m) answer) s.flights found e))
+  landed answer d r g = proper_put s x d (change_flight (Packet.Answer (message_id m) answer) s.flights) ok (found_same s.contexts to x d at r.act) r.proper (λ i p e. either i p (found_changed i p (Packet.Message to ep h m) (Packet.Answer (message_id m) answer) s.flights (name_own id (Packet.Message to ep h m) s.flights find) e))
     where
       numbered : is_message m ≡ true → nat_lt 0 m.header.number ≡ true
       numbered k = grind (arith, k)
@@ -233,28 +223,6 @@ pub take_short : (n : ℕ) (xs : List ℕ) → length (take n xs) ≤ n
 take_short zero xs = omega arith
 take_short (suc n) [] = omega arith
 take_short (suc n) (x ∷ xs) = let z = take_short n xs in omega (arith, z)
-
-take_whole : (n : ℕ) (xs : List ℕ) → n ≤ length xs → length (take n xs) ≡ n
-take_whole zero xs h = refl
-take_whole (suc n) [] h = absurd (omega (arith, h))
-take_whole (suc n) (x ∷ xs) h = let z = take_whole n xs (omega (arith, h)) in omega (arith, z)
-
-drop_rest : (n : ℕ) (xs : List ℕ) → n ≤ length xs → length (drop n xs) + n ≡ length xs
-drop_rest zero xs h = omega arith
-drop_rest (suc n) [] h = absurd (omega (arith, h))
-drop_rest (suc n) (x ∷ xs) h = let z = drop_rest n xs (omega (arith, h)) in omega (arith, z)
-
-length_both : (xs ys : List ℕ) → length (xs ++ ys) ≡ length xs + length ys
-length_both [] ys = omega arith
-length_both (x ∷ xs) ys = let z = length_both xs ys in omega (arith, z)
-
-pub written_length : (place : ℕ) (bytes memory : List ℕ) → place + length bytes ≤ length memory → length (written_at place bytes memory) ≡ length memory
-written_length place bytes memory h =
-    let a = take_whole place memory (omega (arith, h)) in
-    let b = drop_rest (place + length bytes) memory h in
-    let c = length_both (take place memory) (bytes ++ drop (place + length bytes) memory) in
-    let d = length_both bytes (drop (place + length bytes) memory) in
-    omega (arith, a, b, c, d)
 
 -- bytes of a grant lie inside memory
 pub covered_inside : (s : State) → WellFormed s → (g place len : ℕ) (perm : Perm) → is_covered place len perm g (grant_in s.grants g) ≡ true → place + len ≤ length s.memory

@@ -13,18 +13,16 @@ use Rattle.m3_base.specs.Ideal.Flights.{flight, name_of, same_name, new_flight, 
 use Rattle.m3_base.specs.Ideal.Context.{Kind, Sending, Replying, Reading, Writing, Flying, Endpoint, Free, Sends, Receives, Reaches, Context, endpoint, with_endpoint, new_endpoint}
 use Rattle.m3_base.specs.Ideal.Landing.{grant_of, flying_at, without_flying, context_after_answer, endpoint_after_answer, closed_at, flies_at, is_command_at}
 use Rattle.m3_base.specs.Ideal.State.{Grant, State, grant_in, parent_in, undone, is_done, holder, holder_ep, context_of, put_context, same_act}
-use Rattle.m3_base.specs.Ideal.GrantRules.{form, send_form, part_form, new_grant, is_outside, fresh_of, with_grant_made, kernel_id, close_sent, change_grant, after_revoke, with_root_closing, closing_where, marks_under, or_false, to_closing}
+use Rattle.m3_base.specs.Ideal.GrantRules.{form, send_form, part_form, new_grant, is_outside, fresh_of, with_grant_made, kernel_id, close_sent, change_grant, after_revoke, with_root_closing, closing_where, marks_under, or_false, to_closing, to_root, to_sent, to_done}
 use Rattle.m3_base.specs.Limits.{is_within, is_in_limits}
 use Rattle.m3_base.specs.Ideal.Acceptance.{is_form}
 use Rattle.m3_base.specs.Ideal.FlightNames.{Apart}
 use Rattle.m3_base.proofs.FlightNames.{ended}
-use Rattle.m3_laws.proofs.credits.Answer.{after_ending}
-use Rattle.m3_laws.proofs.invariant.step.LookUps.{act_found, apart_found, found_ended, found_new}
+use Rattle.m3_laws.proofs.invariant.step.LookUps.{apart_found, found_ended, found_new}
 use Rattle.m3_laws.specs.GrantInvariant.{GrantInvariant}
 use Rattle.m3_laws.proofs.credits.Counting.{at_set}
 use Rattle.m3_laws.proofs.grants.GrantList.{Changes, at_one, grant_added, changed_from}
 use Rattle.m3_laws.proofs.grants.OrdersKeepGrants.{closing_changes, one_changes}
-use Rattle.m3_laws.proofs.invariant.records.OrdersKeepRecords.{to_sent, to_done, to_root}
 use Rattle.m3_laws.proofs.invariant.records.ClosingRecords.{to_closed}
 use Rattle.m3_laws.proofs.invariant.records.RecordFormsStay.{answered_faces}
 use Rattle.m3_laws.proofs.invariant.wellformed.ChangeKeeps.{same_grant, use_same, use_put, proper_put, tidy_set, lasts_changed, lasts_added, Lasts, packet_kept}
@@ -33,6 +31,8 @@ use Rattle.m3_laws.proofs.invariant.wellformed.LandKeeps.{UsesStay}
 use Rattle.m3_laws.proofs.invariant.commands.ListChanges.{flying_at-without, flying_number}
 use Rattle.m3_laws.specs.WellFormed.{use_by, has_valid_queues, is_held_at, is_inside, WellFormedPacket, WellFormedContext, WellFormedGrant, WellFormed}
 use Rattle.m3_laws.specs.CommandRecord.{CommandsHaveRecords, IsRecordFor, CommandHasRecord}
+use Rattle.m3_base.proofs.Activities.{act_found}
+use Rattle.m3_base.specs.Ideal.Step.{after_ending}
 
 -- ---- an endpoint that no command uses changes
 

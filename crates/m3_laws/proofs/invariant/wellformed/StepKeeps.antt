@@ -19,25 +19,26 @@ use Rattle.m3_base.specs.Ideal.Context.{Flying, Free, Context, endpoint, with_en
 use Rattle.m3_base.specs.Ideal.Issue.{Issued, issue}
 use Rattle.m3_base.specs.Ideal.Landing.{land_refusal, flying_at, closed_at, has_live, has_closing, flies_at, bytes_at, written_at}
 use Rattle.m3_base.specs.Ideal.State.{Grant, State, context_of, put_context, new_context_in, grant_in, holder, holder_ep, parent_of, parent_in, undone}
-use Rattle.m3_base.specs.Ideal.GrantRules.{form, make_refusal, may_close, close_sent, change_grant, kernel_id, is_outside, fresh_of, is_closed_grant, revoke_refusal}
-use Rattle.m3_base.specs.Ideal.Step.{Starts_closing, Closes_endpoint, Sends_close, Frees, Finishes, IdealResult, ideal_step, issue_in, issued_in, await_in, message_in, credit_in, install_in, close_in, land_in, settle_in, answer_in, answered_in, make_in, make_for, revoke_in, send_close_in, closed_in, free_in, done_in, step_to}
+use Rattle.m3_base.specs.Ideal.GrantRules.{form, make_refusal, may_close, close_sent, change_grant, kernel_id, is_outside, fresh_of, is_closed_grant, revoke_refusal, to_done}
+use Rattle.m3_base.specs.Ideal.Step.{Starts_closing, Closes_endpoint, Sends_close, Frees, Finishes, IdealResult, ideal_step, issue_in, issued_in, await_in, message_in, credit_in, install_in, close_in, land_in, settle_in, answer_in, answered_in, make_in, make_for, revoke_in, send_close_in, closed_in, free_in, done_in, step_to, after_ending}
 use Rattle.m3_base.specs.Ideal.Opening.{opening, with_line, with_lines, state_with_grant, contexts_with_record}
 use Rattle.m3_base.specs.Setup.Rules.{Facts, SetupValue, IsValid, AllKept, InRange, no_lines, facts_with_line, breaks_rule}
 use Rattle.m3_base.specs.Limits.{is_in_limits}
 use Rattle.m3_base.proofs.SetupValidity.{grant_allowed}
 use Rattle.m3_base.proofs.SetupObligations.{Ties, obeys, ties, tied_at_first}
-use Rattle.m3_laws.proofs.credits.Answer.{after_ending}
-use Rattle.m3_laws.proofs.invariant.step.LookUps.{name_found, found_own}
+use Rattle.m3_laws.proofs.invariant.step.LookUps.{name_found}
 use Rattle.m3_laws.specs.GrantInvariant.{GrantInvariant}
 use Rattle.m3_laws.proofs.invariant.records.RecordsOfGrants.{install_free}
 use Rattle.m3_laws.proofs.invariant.records.ClosingRecords.{to_closed}
-use Rattle.m3_laws.proofs.invariant.records.OrdersKeepRecords.{to_done}
 use Rattle.m3_laws.proofs.invariant.step.OpeningHolds.{find_inserted, free_at, no_grant}
 use Rattle.m3_laws.proofs.invariant.wellformed.ChangeKeeps.{proper_put}
-use Rattle.m3_laws.proofs.invariant.wellformed.LandKeeps.{issue_proper, uses_stay_credit, proper_ended, message_proper, proper_served, covered_inside, written_length, take_short}
+use Rattle.m3_laws.proofs.invariant.wellformed.LandKeeps.{issue_proper, uses_stay_credit, proper_ended, message_proper, proper_served, covered_inside, take_short}
+use Rattle.m3_base.proofs.MemorySize.{length-written_at}
 use Rattle.m3_laws.proofs.invariant.wellformed.OrdersKeep.{uses_stay_install, uses_stay_close, answer_proper, revoke_proper, done_proper, closed_proper, sent_proper, made_proper, line_proper, proper_undone, proper_grown, set_tidy, opened_tidy}
 use Rattle.m3_laws.specs.WellFormed.{CommandUse, use_of, can_get, uses_read, uses_write, has_valid_queues, WellFormedContext, WellFormed}
 use Rattle.m3_laws.specs.Laws.{Fits}
+use Rattle.m3_base.proofs.Activities.{found_own}
+use Rattle.m3_base.proofs.GrantsByNumber.{memory-state_with_grant}
 
 abbrev pub AllProper : Option IdealResult → Type 0
 AllProper None = Unit {0}
@@ -108,7 +109,7 @@ module _ (s : State) (law : GrantInvariant s) (ok : WellFormed s) where
       let numbers : (nat_lt 0 y.number && nat_le (length payload) 4096) ≡ true = old.numbers in
       let inside = covered_inside s ok h place (length payload) Perm.W old.entitled in
       let writes : uses_write h (use_of s.contexts id) ≡ true = subst (λ z. uses_write h (use_of s.contexts z) ≡ true) (sym n) old.command in
-      proper_served s (written_at place payload s.memory) (Packet.Write y h place payload) (Packet.Answer id Answer.Written) ok (written_length place payload s.memory inside) find (record { numbers = subst (λ z. nat_lt 0 z.number ≡ true) (sym n) (grind (arith, numbers)); command = gets_written h (use_of s.contexts id) writes; entitled = refl })
+      proper_served s (written_at place payload s.memory) (Packet.Write y h place payload) (Packet.Answer id Answer.Written) ok (length-written_at place payload s.memory inside) find (record { numbers = subst (λ z. nat_lt 0 z.number ≡ true) (sym n) (grind (arith, numbers)); command = gets_written h (use_of s.contexts id) writes; entitled = refl })
 
   land_step : (id : FlightId) (o : Option Packet) → flight id s.flights ≡ o → AllProper (land_in s id o)
   land_step id None e = tt
@@ -246,10 +247,6 @@ pub granted_flights : (s : State) (line : GrantLine) (o : Option Fresh) → (sta
 granted_flights s line None = refl
 granted_flights s line (Some f) = refl
 
-granted_memory : (s : State) (line : GrantLine) (o : Option Fresh) → (state_with_grant s line o).memory ≡ s.memory
-granted_memory s line None = refl
-granted_memory s line (Some f) = refl
-
 line_started : (f : Facts) (s : State) (l : SetupLine) → Ties f s → Started f s → breaks_rule l f ≡ false → InRange l → Started (facts_with_line l f) (with_line s l)
 line_started f s (SetupLine.Act a t) k st n r = record { proper = act_started s a (obeys f s (SetupLine.Act a t) k n r).0 st.flights st.proper; flights = st.flights; memory = st.memory }
 line_started f s (SetupLine.Grant line) k st n r =
@@ -258,7 +255,7 @@ line_started f s (SetupLine.Grant line) k st n r =
     record {
       proper = grant_started s line (limits_of f line n) allowed st.flights st.proper o refl;
       flights = granted_flights s line o ∙ st.flights;
-      memory = st.memory ∙ sym (ap length (granted_memory s line o));
+      memory = st.memory ∙ sym (ap length (memory-state_with_grant s line o));
     }
 line_started f s (SetupLine.Quantum q) k st n r = record { proper = st.proper; flights = st.flights; memory = st.memory }
 line_started f s (SetupLine.Files g) k st n r = record { proper = st.proper; flights = st.flights; memory = st.memory }

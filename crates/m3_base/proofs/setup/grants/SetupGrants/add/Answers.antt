@@ -1,7 +1,7 @@
 use Rattle.std.proofs.Common.{arith, ◌+◌, ◌*◌, ◌<◌, ◌≡◌, ◌∷◌, ◌++◌, [], Some, None, length, subst, sym, ◌∙◌, ap}
 use Rattle.m3_base.specs.Ideal.State.{parent_in, parent_of, holder, holder_ep, undone}
 use Rattle.m3_base.specs.Ideal.GrantRules.{make_refusal, form}
-use Rattle.m3_base.specs.Setup.GrantTable.{grants_of, grant_of, above, StandsAbove, under_parent, one_more, new_node}
+use Rattle.m3_base.specs.Setup.GrantTable.{grants_of, grant_of, above, StandsAbove, under_parent, new_node, with_child_more}
 use Rattle.m3_base.specs.Setup.Rules.{grant_added}
 use Rattle.m3_base.proofs.GrantTableLookup.{length_grants}
 use Rattle.m3_base.proofs.GrantRefusal.{above_is}
@@ -28,7 +28,7 @@ invariant_of-self-2 c =
     let found : above gs line ≡ grant_of c.above_node-above.result = above_is gs (parent_of line) (above gs line) c.above_node-above.result at in
     let number : c.new-grant.result ≡ length gs + 1 = grind (arith, c.new-grant.ensures, c.len.ensures, length_grants nodes) in
     let form_is : form (length gs + 1) line (above gs line) ≡ Some c.in-Some.fresh = ap (form (length gs + 1) line) found ∙ (ap (λ n. form n line (grant_of c.above_node-above.result)) (sym number) ∙ (sym c.grant_record.ensures ∙ c.in-Some.is)) in
-    let made : c.push_reserved.new.self.items ≡ under_parent nodes (parent_of line) one_more ++ new_node line c.in-Some.fresh ∷ [] = grind (arith, c.push_reserved.ensures.items, c.add_child.ensures.items, c.reserve.ensures.items, c.parent-2.ensures) in
+    let made : c.push_reserved.new.self.items ≡ under_parent nodes (parent_of line) with_child_more ++ new_node line c.in-Some.fresh ∷ [] = grind (arith, c.push_reserved.ensures.items, c.add_child.ensures.items, c.reserve.ensures.items, c.parent-2.ensures) in
     let at_is : c.endpoint_index-at.result ≡ 16 * holder line + holder_ep line = grind (arith, c.endpoint_index-at.ensures.at, c.act.ensures, c.ep.ensures) in
     let act : holder line < 64 = grind (arith, c.endpoint_index-at.ensures.act, c.act.ensures) in
     let ep : holder_ep line < 16 = grind (arith, c.endpoint_index-at.ensures.ep, c.ep.ensures) in
@@ -44,5 +44,5 @@ returns-clause-added c =
     let found : above gs line ≡ grant_of c.above_node-above.result = above_is gs (parent_of line) (above gs line) c.above_node-above.result at in
     let number : c.new-grant.result ≡ length gs + 1 = grind (arith, c.new-grant.ensures, c.len.ensures, length_grants nodes) in
     let form_is : form (length gs + 1) line (above gs line) ≡ Some c.in-Some.fresh = ap (form (length gs + 1) line) found ∙ (ap (λ n. form n line (grant_of c.above_node-above.result)) (sym number) ∙ (sym c.grant_record.ensures ∙ c.in-Some.is)) in
-    let made : c.push_reserved.new.self.items ≡ under_parent nodes (parent_of line) one_more ++ new_node line c.in-Some.fresh ∷ [] = grind (arith, c.push_reserved.ensures.items, c.add_child.ensures.items, c.reserve.ensures.items, c.parent-2.ensures) in
+    let made : c.push_reserved.new.self.items ≡ under_parent nodes (parent_of line) with_child_more ++ new_node line c.in-Some.fresh ∷ [] = grind (arith, c.push_reserved.ensures.items, c.add_child.ensures.items, c.reserve.ensures.items, c.parent-2.ensures) in
     ap grants_of made ∙ (setup_grants_made nodes line c.in-Some.fresh c.self.invariant.live form_is ∙ ap (grant_added line) c.self.view_is)
