@@ -6,6 +6,7 @@ use Rattle.m3_base.specs.Lists.EachElement.{Each}
 use Rattle.std.proofs.lemmas.Bool.Decides.{nat_tests}
 use Rattle.m3_merge.proofs.MergedIsRun.{eqb_same}
 use Rattle.m3_merge.proofs.StampBounds.{parts_run}
+use Rattle.std.proofs.lemmas.List.{length-map}
 
 module _ {S E Q : Type 0} (Step : ℕ → S → Item E Q → S → Type 0) (stamp_of : Q → ℕ) (cap : ℕ) where
   drop_clock : (b : Bool) (t : ℕ) (x : Item E Q) (p q : ℕ × S) → either b (Clocked Step stamp_of cap t p x q) (q ≡ p) → either b (Step t p.1 x q.1) (q.1 ≡ p.1)
@@ -86,10 +87,6 @@ module _ {S E Q R : Type 0} (Step : ℕ → S → Item E Q → S → Type 0) (st
   run_tiles t a [] b r = tt
   run_tiles t a (x ∷ xs) b r = (r.1.tile, run_tiles t r.0 xs b r.2)
 
-  length-map : {X Y : Type 0} (f : X → Y) (xs : List X) → length (map f xs) ≡ length xs
-  length-map f [] = refl
-  length-map f (x ∷ xs) = omega (arith, length-map f xs)
-
   -- The journal that is merged from the parts' notes is that of a run of the machine that the parts began with, to what they and the links then have
   pub journal_run : (opening : ℕ → S) (items : ℕ → List (Item E Q)) (last : ℕ → ℕ × S) (left : ℕ → ℕ → List Q) (notes : ℕ → List R) (journal : List (ℕ × R))
       → AreParts Step stamp_of cap opening items last left → ((t : ℕ) → notes t ≡ map note (items t)) → AreMerged stamp_in notes journal → length journal ≤ cap
@@ -97,7 +94,7 @@ module _ {S E Q R : Type 0} (Step : ℕ → S → Item E Q → S → Type 0) (st
       × MachineRun Step (record { parts = opening; links = λ s d. [] }) xs (record { parts = λ t. (last t).1; links = left })
   journal_run opening items last left notes journal parts noted merged short =
       let deeds = merged_deeds stamp_in note same_stamp journal items (λ t. run_tiles t (0, opening t) (items t) (last t) (parts.runs t)) (record { tiles = λ t. merged.tiles t ∙ noted t; order = merged.order }) in
-      let few : length deeds.0 ≤ cap = (let a = ap length deeds.1 in omega (arith, length-map {Y = ℕ × R} (λ (x : Item E Q). (x.tile, note x)) deeds.0)) in
+      let few : length deeds.0 ≤ cap = (let a = ap length deeds.1 in omega (arith, length-map {B = ℕ × R} deeds.0 (λ (x : Item E Q). (x.tile, note x)))) in
       let run = parts_run Step stamp_of cap opening items last left deeds.0 parts deeds.2 few in
       (deeds.0, deeds.1, unclocked_run Step stamp_of cap deeds.0 (record { parts = λ t. (0, opening t); links = λ s d. [] }) (record { parts = last; links = left }) run)
 

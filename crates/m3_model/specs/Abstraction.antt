@@ -3,7 +3,7 @@ use Rattle.std.specs.Prelude.{ℕ, ◌+◌, Bool, false, ◌==◌, List, [], ◌
 use Rattle.std.specs.List.{list_any}
 use Rattle.m3_base.specs.declared.ids.FlightId.{FlightId}
 use Rattle.m3_base.specs.declared.packet.Packet.{Packet}
-use Rattle.m3_base.specs.Ideal.Flights.{name_of, new_flight}
+use Rattle.m3_base.specs.Ideal.Flights.{name_of, sorted_by_name}
 use Rattle.m3_base.specs.Ideal.Context.{Context}
 use Rattle.m3_base.specs.Ideal.State.{State, Grant, new_context_in}
 use Rattle.m3_base.specs.Ideal.State as ideal
@@ -87,10 +87,6 @@ all_closed m = flat_links closed_in m.links
 abbrev pub sorted_by_act : List Context → List Context
 sorted_by_act [] = []
 sorted_by_act (c ∷ cs) = new_context_in c (sorted_by_act cs)
-
-abbrev pub sorted_by_name : List Packet → List Packet
-sorted_by_name [] = []
-sorted_by_name (p ∷ ps) = new_flight p (sorted_by_name ps)
 
 abbrev pub is_in : List ℕ → ℕ → Bool
 is_in ns n = list_any (λ g. g == n) ns

@@ -1,7 +1,7 @@
 -- Worked rows, of the machine.
 use Rattle.std.specs.Prelude.{◌≡◌, ℕ, zero, suc, List, [], ◌∷◌, ◌++◌, Option, Some, None}
 use Rattle.std.proofs.Common.{refl}
-use Rattle.m3_base.specs.Examples.Scripts.{id, delivery_setup, delivery, full_buffer_setup, full_buffer, switch_keeps_unread_setup, switch_keeps_unread, resting_receiver_setup, resting_receiver, restore_waits_setup, restore_waits, sender_leaves_setup, sender_leaves, idle_events_setup, idle_events, replies_setup, replies, late_credit_setup, late_credit, memory_access_setup, memory_access, revoke_while_writing_setup, revoke_while_writing, close_while_replying_setup, close_while_replying, children_first_setup, children_first, order_of_refusals_setup, order_of_refusals, refused_grants_setup, refused_grants}
+use Rattle.m3_base.specs.Examples.Scripts.{delivery_setup, delivery, full_buffer_setup, full_buffer, switch_keeps_unread_setup, switch_keeps_unread, resting_receiver, restore_waits, sender_leaves_setup, sender_leaves, idle_events, replies_setup, replies, late_credit_setup, late_credit, memory_access_setup, memory_access, revoke_while_writing_setup, revoke_while_writing, close_while_replying_setup, close_while_replying, children_first_setup, children_first, order_of_refusals_setup, order_of_refusals, refused_grants_setup, refused_grants, entry_with}
 use Rattle.m3_base.specs.declared.event.Outcome.{Outcome}
 use Rattle.m3_base.specs.declared.event.Event.{Event}
 use Rattle.m3_base.specs.declared.event.Entry.{Entry}
@@ -11,14 +11,12 @@ use Rattle.m3_base.specs.declared.command.Command.{Command}
 use Rattle.m3_base.specs.declared.command.Answer.{Answer}
 use Rattle.m3_base.specs.declared.order.Order.{Order}
 use Rattle.m3_base.specs.Ideal.Opening.{opening}
-use Rattle.m3_base.specs.Placement.State.{Placement}
 use Rattle.m3_base.specs.Placement.Step.{placement_step}
 use Rattle.m3_base.specs.Placement.Opening.{opening_placement}
 use Rattle.m3_base.specs.Placement.Landing as places_landing
 use Rattle.m3_base.specs.declared.event.Made.{Made}
 use Rattle.m3_base.specs.Placement.Driver.{next_event}
-use Rattle.m3_base.specs.Examples.Driver.{Programs, made_by, programs_after, two_on_one_tile_setup, two_on_one_tile_programs}
-use Rattle.m3_base.specs.Examples.Driver as driven
+use Rattle.m3_base.specs.Examples.Driver.{Programs, made_by, programs_after, two_on_one_tile_programs}
 use Rattle.m3_base.specs.Examples.Placement.{expected}
 use Rattle.m3_base.specs.declared.order.GrantLine.{GrantLine}
 use Rattle.m3_base.specs.declared.packet.Perm.{Perm}
@@ -29,6 +27,8 @@ use Rattle.m3_model.specs.Tile.Step.{resident_of}
 use Rattle.m3_model.specs.Machine.{Machine, MachineResult, tile_at, machine_step, opened_machine}
 use Rattle.m3_model.specs.Config.FromSetup.{site_of}
 use Rattle.m3_model.specs.Abstraction.{ideal_of, placement_of}
+use Rattle.m3_base.specs.Ideal.Flights.{flight_name as id}
+use Rattle.m3_base.specs.Calls.ShortJournal.{short_lines, short_journal}
 
 abbrev pub machine_of : Machine → Option MachineResult → Machine
 machine_of m None = m
@@ -69,16 +69,16 @@ delivery_machine = record { opens = refl; stands = refl; says = refl; says_at = 
 pub full_buffer_machine : Row 16 [] full_buffer_setup full_buffer
 full_buffer_machine = record { opens = refl; stands = refl; says = refl; says_at = refl }
 
-pub resting_receiver_machine : Row 16 [] resting_receiver_setup resting_receiver
+pub resting_receiver_machine : Row 16 [] switch_keeps_unread_setup resting_receiver
 resting_receiver_machine = record { opens = refl; stands = refl; says = refl; says_at = refl }
 
-pub restore_waits_machine : Row 16 [] restore_waits_setup restore_waits
+pub restore_waits_machine : Row 16 [] switch_keeps_unread_setup restore_waits
 restore_waits_machine = record { opens = refl; stands = refl; says = refl; says_at = refl }
 
 pub sender_leaves_machine : Row 16 [] sender_leaves_setup sender_leaves
 sender_leaves_machine = record { opens = refl; stands = refl; says = refl; says_at = refl }
 
-pub idle_events_machine : Row 16 [] idle_events_setup idle_events
+pub idle_events_machine : Row 16 [] switch_keeps_unread_setup idle_events
 idle_events_machine = record { opens = refl; stands = refl; says = refl; says_at = refl }
 
 pub replies_machine : Row 16 [] replies_setup replies
@@ -129,26 +129,7 @@ abbrev pub auto : Site → ℕ → Driving → Driving
 auto h zero r = r
 auto h (suc n) r = auto h n (drives h r (next_event (ideal_of r.machine) (placement_of h r.machine) []))
 
-abbrev pub two_on_one_tile : List Entry
-two_on_one_tile = (
-    driven.entry (Event.Turn 0) (Some (Made.Command (Command.Send 0 (42 ∷ []) None))) (Said.Flying (id 0 1)) None
-    ∷ driven.entry (Event.Take 2 2) None (Said.Bounced (id 0 1)) None
-    ∷ driven.entry (Event.Take 0 2) None (Said.Held (id 0 1) 1) None
-    ∷ driven.entry (Event.Tend 1) None (Said.Landed (id 0 1)) None
-    ∷ driven.entry (Event.Take 2 0) None (Said.Answered (id 0 1) Answer.Sent None) None
-    ∷ driven.entry (Event.Turn 0) (Some Made.End) Said.Ended None
-    ∷ driven.entry (Event.Take 0 2) None (Said.Yielded 0) None
-    ∷ driven.entry (Event.Order (Order.Switch 2 1)) None (Said.Save 0) None
-    ∷ driven.entry (Event.Take 2 0) None (Said.Saving 0) None
-    ∷ driven.entry (Event.Take 0 2) None (Said.Saved 0) (Some 1)
-    ∷ driven.entry (Event.Take 2 0) None (Said.Current 1) None
-    ∷ driven.entry (Event.Turn 1) (Some (Made.Await 0)) Said.Awake None
-    ∷ driven.entry (Event.Turn 1) (Some (Made.Command (Command.Fetch 0))) (Said.Message 0 0 5 (42 ∷ [])) None
-    ∷ driven.entry (Event.Turn 1) (Some Made.End) Said.Ended None
-    ∷ driven.entry (Event.Take 0 2) None (Said.Yielded 1) None
-    ∷ [])
-
-pub two_on_one_tile_machine : (auto (site_of 64 (0 ∷ 1 ∷ []) two_on_one_tile_setup) 20 (record { machine = opened_machine 64 (0 ∷ 1 ∷ []) two_on_one_tile_setup; programs = two_on_one_tile_programs; entries = [] })).entries ≡ two_on_one_tile
+pub two_on_one_tile_machine : (auto (site_of 64 (0 ∷ 1 ∷ []) short_lines) 20 (record { machine = opened_machine 64 (0 ∷ 1 ∷ []) short_lines; programs = two_on_one_tile_programs; entries = [] })).entries ≡ short_journal
 two_on_one_tile_machine = refl
 
 -- ---- an answer that the kernel applied while its activity was away is seen by its program
@@ -158,19 +139,19 @@ setup_away = SetupLine.Act 0 2 ∷ SetupLine.Act 1 2 ∷ SetupLine.Grant (GrantL
 
 abbrev pub row_away : List Entry
 row_away =
-    driven.entry (Event.Turn 0) (Some (Made.Command (Command.Read 0 0 2))) (Said.Flying (id 0 1)) None
-    ∷ driven.entry (Event.Order (Order.Switch 2 1)) None (Said.Save 0) None
-    ∷ driven.entry (Event.Take 2 0) None (Said.Saving 0) None
-    ∷ driven.entry (Event.Take 0 2) None (Said.Saved 0) (Some 1)
-    ∷ driven.entry (Event.Take 1 2) None (Said.Landed (id 0 1)) None
-    ∷ driven.entry (Event.Take 2 1) None (Said.Bounced (id 0 1)) None
-    ∷ driven.entry (Event.Take 0 2) None (Said.Held (id 0 1) 0) None
-    ∷ driven.entry (Event.Tend 0) None (Said.Answered (id 0 1) (Answer.Bytes (0 ∷ 0 ∷ [])) None) None
-    ∷ driven.entry (Event.Take 2 0) None (Said.Current 1) None
-    ∷ driven.entry (Event.Order (Order.Switch 2 0)) None (Said.Save 1) None
-    ∷ driven.entry (Event.Take 2 0) None (Said.Saving 1) None
-    ∷ driven.entry (Event.Take 0 2) None (Said.Saved 1) (Some 0)
-    ∷ driven.entry (Event.Take 2 0) None (Said.Current 0) None
+    entry_with (Event.Turn 0) (Some (Made.Command (Command.Read 0 0 2))) (Said.Flying (id 0 1)) None
+    ∷ entry_with (Event.Order (Order.Switch 2 1)) None (Said.Save 0) None
+    ∷ entry_with (Event.Take 2 0) None (Said.Saving 0) None
+    ∷ entry_with (Event.Take 0 2) None (Said.Saved 0) (Some 1)
+    ∷ entry_with (Event.Take 1 2) None (Said.Landed (id 0 1)) None
+    ∷ entry_with (Event.Take 2 1) None (Said.Bounced (id 0 1)) None
+    ∷ entry_with (Event.Take 0 2) None (Said.Held (id 0 1) 0) None
+    ∷ entry_with (Event.Tend 0) None (Said.Answered (id 0 1) (Answer.Bytes (0 ∷ 0 ∷ [])) None) None
+    ∷ entry_with (Event.Take 2 0) None (Said.Current 1) None
+    ∷ entry_with (Event.Order (Order.Switch 2 0)) None (Said.Save 1) None
+    ∷ entry_with (Event.Take 2 0) None (Said.Saving 1) None
+    ∷ entry_with (Event.Take 0 2) None (Said.Saved 1) (Some 0)
+    ∷ entry_with (Event.Take 2 0) None (Said.Current 0) None
     ∷ []
 
 abbrev pub last_machine : Site → Machine → List Entry → Machine

@@ -1,6 +1,8 @@
 pub mod Machine
 pub mod Ways
 pub mod KernelNumber
+pub mod ShutGrants
+pub mod MemorySize
 pub mod Events
 pub mod Config
 pub mod Kernel
@@ -15,3 +17,5 @@ pub mod Examples
 pub mod Parcel
 pub mod LocalStep
 pub mod Invariant
+pub mod StayMoves
+pub mod ReadyLists

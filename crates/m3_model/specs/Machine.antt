@@ -1,5 +1,5 @@
 -- The machine: its parts and links, its step, and its opening.
-use Rattle.std.specs.Prelude.{ℕ, ◌+◌, ◌*◌, Bool, true, false, ◌&&◌, ◌==◌, List, [], ◌∷◌, ◌++◌, map, replicate, slice_index_or, slice_set, Option, Some, None, if◌then◌else◌}
+use Rattle.std.specs.Prelude.{ℕ, ◌+◌, ◌*◌, Bool, true, false, ◌&&◌, ◌==◌, List, [], ◌∷◌, ◌++◌, map, replicate, slice_index_or, slice_set, Option, Some, None, if◌then◌else◌, is_some}
 use Rattle.m3_base.specs.declared.event.Event.{Event}
 use Rattle.m3_base.specs.declared.event.Made.{Made}
 use Rattle.m3_base.specs.declared.event.IdleWhy.{IdleWhy}
@@ -149,17 +149,13 @@ residency_at_opening (Some x) c = Is_resting (record { context = c; heard = []; 
 abbrev pub joined_ready : Bool → ℕ → ℕ → List (List ℕ) → List (List ℕ)
 joined_ready b t a ready = if b then slice_set ready t (slice_index_or ready t [] ++ a ∷ []) else ready
 
-abbrev pub is_there : Option Context → Bool
-is_there None = false
-is_there (Some x) = true
-
 abbrev pub entry_at_opening : Home → Context → Tile → Machine → Machine
 entry_at_opening x c t m =
     record m {
       tiles = slice_set m.tiles x.tile (record t { current = first_there t.current c; stays = t.stays ++ new_stay x.act ∷ [] });
       kernel = record m.kernel {
         seats = m.kernel.seats ++ record { act = x.act; seating = residency_at_opening t.current c; hold = [] } ∷ [];
-        ready = joined_ready (is_there t.current && x.has_program) x.tile x.act m.kernel.ready;
+        ready = joined_ready (is_some t.current && x.has_program) x.tile x.act m.kernel.ready;
       };
     }
 

@@ -1,8 +1,8 @@
 -- The way from the kernel to an activity: the link to its home, and then its hold list. No Install of a grant stands on
 -- it behind the grant's Close.
-use Rattle.std.specs.Prelude.{◌≡◌, ℕ, ◌<◌, ◌≤◌, Bool, false, ◌==◌, List, [], ◌∷◌, ◌++◌, length, Some, if◌then◌else◌}
+use Rattle.std.specs.Prelude.{◌≡◌, ℕ, ◌<◌, ◌≤◌, false, ◌==◌, List, [], ◌∷◌, ◌++◌, length, Some, if◌then◌else◌}
 use Rattle.m3_base.specs.declared.packet.Packet.{Packet}
-use Rattle.m3_base.specs.Ideal.Step.{number_of}
+use Rattle.m3_base.specs.Ideal.Step.{is_install_of}
 use Rattle.m3_base.specs.Placement.Routing.{target}
 use Rattle.m3_base.specs.Placement.Take.{is_here}
 use Rattle.m3_base.specs.Lists.EachElement.{Each}
@@ -23,15 +23,6 @@ IsPlain (Packet.Write id g place payload) = Unit {0}
 IsPlain (Packet.Answer id answer) = Unit {0}
 IsPlain (Packet.Install id to ep f) = ⊥
 IsPlain (Packet.Close id to ep g) = ⊥
-
-abbrev pub is_install_of : ℕ → Packet → Bool
-is_install_of n (Packet.Message to ep g m) = false
-is_install_of n (Packet.Credit id to g) = false
-is_install_of n (Packet.Read id g place buffer) = false
-is_install_of n (Packet.Write id g place payload) = false
-is_install_of n (Packet.Answer id answer) = false
-is_install_of n (Packet.Install id to ep f) = number_of f == n
-is_install_of n (Packet.Close id to ep g) = false
 
 -- the second may stand behind the first: it isn't the Install of the grant that the first closes
 abbrev pub MayFollow : Packet → Packet → Type 0

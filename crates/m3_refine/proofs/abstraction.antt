@@ -8,5 +8,10 @@ pub mod PushParcel
 pub mod ReplaceEntry
 pub mod EntriesMatchActors
 pub mod ClosedGrants
+pub mod ClosingGrants
+pub mod ChangeGrants
 pub mod CurrentAlongLink
 pub mod OpeningLines
+pub mod OtherContexts
+pub mod ChangeResident
+pub mod PushYield

@@ -3,4 +3,11 @@ pub mod BoundsOfParts
 pub mod TileKeepsBounds
 pub mod KernelKeepsBounds
 pub mod ArriveKeepsBounds
+pub mod PartStep
+pub mod KernelFrame
 pub mod KernelNumber
+pub mod ShutGrants
+pub mod MemorySize
+pub mod TurnKeepsBounds
+pub mod StayMoves
+pub mod ReadyLists

@@ -1,2 +1,3 @@
 pub mod NoProgramMoves
 pub mod StepIsLocalMove
+pub mod AnyStepMoves

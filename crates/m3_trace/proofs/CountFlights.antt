@@ -1,8 +1,7 @@
 -- The flights of the ideal state are as many as the packets of the machine.
 use Rattle.std.proofs.Common.{◌≡◌, ℕ, suc, Bool, true, false, List, [], ◌∷◌, length, if◌then◌else◌, refl, ap, ◌∙◌}
 use Rattle.m3_base.specs.declared.packet.Packet.{Packet}
-use Rattle.m3_base.specs.Ideal.Flights.{new_flight, name_of, name_before}
-use Rattle.m3_model.specs.Abstraction.{sorted_by_name}
+use Rattle.m3_base.specs.Ideal.Flights.{new_flight, name_of, name_before, sorted_by_name}
 
 length_if : (b : Bool) (n : ℕ) (xs ys : List Packet) → length xs ≡ n → length ys ≡ n → length (if b then xs else ys) ≡ n
 length_if true n xs ys e f = e

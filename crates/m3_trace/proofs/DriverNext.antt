@@ -1,9 +1,8 @@
 -- What the driver does next in a machine whose activities have no program.
-use Rattle.std.proofs.Common.{◌≡◌, ℕ, ◌+◌, ◌∙◌, Bool, true, false, List, [], ◌∷◌, map, get_or, Option, Some, None, refl, sym, ap}
+use Rattle.std.proofs.Common.{◌≡◌, ℕ, ◌∙◌, Bool, true, false, List, [], ◌∷◌, map, get_or, Option, Some, None, refl, sym, ap}
 use Rattle.std.specs.Prelude.{not, ◌&&◌, if◌then◌else◌}
 use Rattle.m3_base.specs.declared.event.Event.{Event}
-use Rattle.m3_base.specs.Ideal.State.{State, Standing, Live, Closing, Closed, Done, Grant, context_of, same_act}
-use Rattle.m3_base.specs.Ideal.GrantRules.{is_closing_grant, is_open_child}
+use Rattle.m3_base.specs.Ideal.State.{State, context_of, same_act}
 use Rattle.m3_base.specs.Placement.State.{PlacedActivity, actor, current_of, ready_at}
 use Rattle.m3_base.specs.Placement.Order.{least_closing, is_moving_at}
 use Rattle.m3_base.specs.Placement.Turn.{is_waiting_turn, busy_any}
@@ -17,8 +16,9 @@ use Rattle.m3_model.specs.Config.Site.{Home, Site}
 use Rattle.m3_model.specs.Machine.{Machine}
 use Rattle.m3_model.specs.Abstraction.{ideal_of, placement_of, actor_in}
 use Rattle.m3_trace.specs.DriverOfMachine.{next_take, next_event, least_tend}
-use Rattle.m3_trace.specs.Invariant.{IsPristine, ConfigUnchanged}
+use Rattle.m3_trace.specs.Invariant.{HasNoPrograms}
 use Rattle.m3_model.specs.Invariant.Structure.{MachineStructure}
+use Rattle.m3_refine.proofs.events.order.CloseRefines.{least}
 use Rattle.m3_trace.proofs.DriverTendClose.{tend_same}
 use Rattle.m3_trace.proofs.DriverTake.{next_is_driver}
 
@@ -48,11 +48,11 @@ no_turn_by s (Some x) k = by_program x.has_program (k x refl)
     by_program true e = absurd (cc)
     by_program false e = refl
 
-no_turn_at : (h : Site) (m : Machine) → ConfigUnchanged h m.kernel → (o : Option ℕ) → turn_by (ideal_of m) (actor_at (placement_of h m) o) ≡ None
+no_turn_at : (h : Site) (m : Machine) → HasNoPrograms h m.kernel → (o : Option ℕ) → turn_by (ideal_of m) (actor_at (placement_of h m) o) ≡ None
 no_turn_at h m plain None = refl
-no_turn_at h m plain (Some a) = no_turn_by (ideal_of m) (actor a (placement_of h m)) (λ y e. plain_actor m a h.homes plain.programs y e)
+no_turn_at h m plain (Some a) = no_turn_by (ideal_of m) (actor a (placement_of h m)) (λ y e. plain_actor m a h.homes plain.none y e)
 
-no_wish : (h : Site) (m : Machine) → ConfigUnchanged h m.kernel → (t : ℕ) → wanted_at (placement_of h m) t ≡ None
+no_wish : (h : Site) (m : Machine) → HasNoPrograms h m.kernel → (t : ℕ) → wanted_at (placement_of h m) t ≡ None
 no_wish h m still t = by_list (not (list_any (is_moving_at t) (placement_of h m).actors) && get_or m.kernel.yielded t false) (ready_at t (placement_of h m)) (still.ready t)
   where
     by_list : (b : Bool) (xs : List ℕ) → xs ≡ [] → (if b then switch_to t xs else None) ≡ None
@@ -67,7 +67,7 @@ three None None (Some x) d e f i j k = refl
 three None None None d e f i j k = λ n. first_some (i n ∷ j n ∷ k n ∷ [])
 
 -- the driver's next event is a take, else a tend, else a close
-pub next_plain : (h : Site) (m : Machine) → ConfigUnchanged h m.kernel
+pub next_plain : (h : Site) (m : Machine) → HasNoPrograms h m.kernel
     → driver.next_event (ideal_of m) (placement_of h m) [] ≡ first_some (next_take m ∷ tend_of (driver.least_tend (placement_of h m).actors) ∷ close_of (least_closing (ideal_of m).grants 1 (ideal_of m).grants) ∷ [])
 next_plain h m plain =
     let tend = tend_of (driver.least_tend (placement_of h m).actors) in
@@ -77,21 +77,9 @@ next_plain h m plain =
     (none_for tiles (λ t. turn_by (ideal_of m) (actor_at (placement_of h m) (current_of t (placement_of h m)))) (λ t. no_turn_at h m plain (current_of t (placement_of h m))))
     ∙ ap (λ o. first_some (o ∷ tend ∷ close ∷ [])) (next_is_driver h m)
 
--- ---- nothing closes
-
-pub no_close : (all : List Grant) (n : ℕ) (gs : List Grant) → Each IsPristine gs → least_closing all n gs ≡ None
-no_close all n [] k = refl
-no_close all n (x ∷ gs) k = by_standing x.standing k.0.live ∙ no_close all (n + 1) gs k.1
-  where
-    by_standing : (w : Standing) → w ≡ Live → (if is_closing_grant w && (not x.close_sent && not (list_any (is_open_child n) all)) then Some n else least_closing all (n + 1) gs) ≡ least_closing all (n + 1) gs
-    by_standing Live e = refl
-    by_standing Closing e = absurd (cc)
-    by_standing Closed e = absurd (cc)
-    by_standing Done e = absurd (cc)
-
 -- the driver's next event is the machine's
-pub next_is : (h : Site) (m : Machine) → MachineStructure h m → ConfigUnchanged h m.kernel → Each IsPristine (ideal_of m).grants → driver.next_event (ideal_of m) (placement_of h m) [] ≡ next_event m
-next_is h m sound still new =
-    next_plain h m still
+pub next_is : (h : Site) (m : Machine) → MachineStructure h m → HasNoPrograms h m.kernel → driver.next_event (ideal_of m) (placement_of h m) [] ≡ next_event m
+next_is h m sound plain =
+    next_plain h m plain
     ∙ ap (λ o. first_some (next_take m ∷ tend_of o ∷ close_of (least_closing (ideal_of m).grants 1 (ideal_of m).grants) ∷ [])) (tend_same h m sound)
-    ∙ ap (λ o. first_some (next_take m ∷ tend_of (least_tend m.kernel.seats) ∷ close_of o ∷ [])) (no_close (ideal_of m).grants 1 (ideal_of m).grants new ∙ sym (no_close m.kernel.grants 1 m.kernel.grants still.grants))
+    ∙ ap (λ o. first_some (next_take m ∷ tend_of (least_tend m.kernel.seats) ∷ close_of o ∷ [])) (least h m sound)

@@ -12,7 +12,7 @@ use Rattle.m3_model.specs.Machine.{Machine}
 use Rattle.m3_model.specs.Abstraction.{link_token, placement_of, current_act}
 use Rattle.m3_trace.specs.DriverOfMachine.{take_if, take_on, next_take_at, next_take_on, next_take, tile_lines, tile_lines_from}
 
-first_same : (f g : ℕ → Option Event) → ((t : ℕ) → f t ≡ g t) → (ts : List ℕ) → first_for ts f ≡ first_for ts g
+pub first_same : (f g : ℕ → Option Event) → ((t : ℕ) → f t ≡ g t) → (ts : List ℕ) → first_for ts f ≡ first_for ts g
 first_same f g same [] = refl
 first_same f g same (t ∷ ts) =
     ap (λ o. first_some (o ∷ first_for ts f ∷ [])) (same t) ∙ ap (λ o. first_some (g t ∷ o ∷ [])) (first_same f g same ts)

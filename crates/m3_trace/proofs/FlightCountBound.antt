@@ -24,7 +24,7 @@ use Rattle.m3_base.specs.Ideal.GrantRules.{form, make_refusal, revoke_refusal, m
 use Rattle.m3_base.specs.Ideal.Issue.{Issued, issue}
 use Rattle.m3_base.specs.Ideal.Landing.{land, bytes_at, has_live, has_closing, flies_at, flying_at, closed_at}
 use Rattle.m3_base.specs.Ideal.Opening.{opening}
-use Rattle.m3_laws.proofs.journals.NoConfigInFlight.{nothing_flies}
+use Rattle.m3_laws.proofs.invariant.step.NoFlightAtOpening.{nothing_flies}
 use Rattle.m3_base.specs.Ideal.State.{State, Grant, Closed, Done, context_of, put_context, grant_in, holder, holder_ep, parent_in, parent_of, undone}
 use Rattle.m3_base.specs.Ideal.Step.{IdealResult, Frees, Finishes, Sends_close, Closes_endpoint, Starts_closing, ideal_step, RunResult, ideal_run, on_from, with_label, step_to, issue_in, issued_in, await_in, message_in, credit_in, install_in, close_in, land_in, settle_in, answer_in, answered_in, make_in, make_for, revoke_in, send_close_in, free_in, closed_in, done_in, with_packet}
 use Rattle.m3_trace.proofs.CountFlights.{length_new}

@@ -1,25 +1,20 @@
 -- An entry whose outcome is idle leaves the ideal state and the placement as they were.
-use Rattle.std.proofs.Common.{◌≡◌, ℕ, ◌+◌, Bool, true, false, List, [], ◌∷◌, Option, Some, None, refl, sym, ap, ◌∙◌, subst}
-use Rattle.std.specs.Prelude.{not, ◌&&◌, ◌||◌, ◌==◌, nat_le, if◌then◌else◌, is_some}
+use Rattle.std.proofs.Common.{◌≡◌, ℕ, Bool, true, false, List, [], ◌∷◌, Option, Some, None, refl, sym, ap, ◌∙◌, subst}
+use Rattle.std.specs.Prelude.{not, ◌||◌, ◌==◌, if◌then◌else◌, is_some}
 use Rattle.std.specs.List.{list_any}
-use Rattle.m3_base.specs.declared.command.Answer.{Answer}
 use Rattle.m3_base.specs.declared.command.Command.{Command}
-use Rattle.m3_base.specs.declared.command.Reply.{Reply}
 use Rattle.m3_base.specs.declared.event.Event.{Event}
-use Rattle.m3_base.specs.declared.event.Entry.{Entry}
 use Rattle.m3_base.specs.declared.event.IdleWhy.{IdleWhy}
 use Rattle.m3_base.specs.declared.event.Made.{Made}
 use Rattle.m3_base.specs.declared.event.No.{No}
 use Rattle.m3_base.specs.declared.event.Outcome.{Outcome}
 use Rattle.m3_base.specs.declared.event.Said.{Said}
 use Rattle.m3_base.specs.declared.order.Order.{Order}
-use Rattle.m3_base.specs.declared.message.Message.{Message}
 use Rattle.m3_base.specs.declared.ids.FlightId.{FlightId}
 use Rattle.m3_base.specs.declared.step.Step.{Step}
 use Rattle.m3_base.specs.Journal.OutcomeForms.{allows_outcome, is_allowed_outcome, may_restore}
-use Rattle.m3_base.specs.Journal.Entry.{said_of, shown_told, shown_reply, shown_message, steps_of, next_state, ran_to}
-use Rattle.m3_base.specs.Ideal.Issue.{IssueOutcome, Gives, Flies}
-use Rattle.m3_base.specs.Placement.EntryStep.{IsPlacementStep, PlacementMoves}
+use Rattle.m3_base.specs.Journal.Entry.{said_of, steps_of, next_state, ran_to}
+use Rattle.m3_base.specs.Placement.EntryStep.{IsPlacementStep}
 use Rattle.m3_base.specs.Placement.Landing as places_landing
 use Rattle.m3_base.specs.Placement.Command as places_command
 use Rattle.m3_base.specs.Placement.Turn as places_turn
@@ -34,171 +29,11 @@ use Rattle.m3_base.specs.Placement.Routing.{Routed}
 use Rattle.m3_base.specs.Placement.Step.{placement_step}
 use Rattle.m3_base.specs.Ideal.Flights.{flight}
 use Rattle.m3_base.specs.Ideal.State.{State, context_of}
-use Rattle.m3_base.specs.Ideal.Step.{Label, RunResult, At_issue, Present, Landing, Refusing, Credits, Discards, Installs, Starts_closing, Closes_endpoint, Frees, Answers, Not_made, Makes, Revokes, Sends_close, Finishes, ideal_run}
+use Rattle.m3_base.specs.Ideal.Step.{RunResult, ideal_run}
 use Rattle.m3_trace.specs.Opening.{entry}
 use Rattle.m3_trace.specs.IdleOutcomes.{IsIdle}
-
--- ---- what steps say isn't idle
-
-message_said : (t : ℕ) (m : Message) (b : Bool) → IsIdle (shown_message t m b) → ⊥
-message_said t m true i = i
-message_said t m false i = i
-
-reply_said : (r : Reply) → IsIdle (shown_reply r) → ⊥
-reply_said Reply.Nothing i = i
-reply_said (Reply.Fetched t m) i = message_said t m (m.header.flags == 0) i
-reply_said (Reply.Acknowledged credit) i = i
-reply_said (Reply.Refused why) i = i
-reply_said Reply.Sent i = i
-reply_said Reply.Replied i = i
-reply_said Reply.Written i = i
-reply_said (Reply.Bytes bytes) i = i
-
-told_said : (t : IssueOutcome) → IsIdle (shown_told t) → ⊥
-told_said (Gives r) i = reply_said r i
-told_said (Flies id) i = i
-
--- the words of steps
-abbrev NeverIdle : Option Said → Type 0
-NeverIdle o = IsIdle (places_landing.said_or_nothing o) → ⊥
-
-one_said : (held : Bool) (w : Label) → NeverIdle (said_of held (w ∷ []))
-one_said held (At_issue t) i = told_said t i
-one_said held (Present true) i = i
-one_said held (Present false) i = i
-one_said held (Landing id) i = i
-one_said held (Refusing id why) i = i
-one_said held (Credits id g) i = i
-one_said held (Discards id g) i = i
-one_said held (Installs id g) i = i
-one_said held (Starts_closing id g) i = i
-one_said held (Closes_endpoint id g) i = i
-one_said held (Answers id answer closed) i = i
-one_said held (Not_made why) i = i
-one_said held (Makes g id) i = i
-one_said held (Revokes g) i = i
-one_said held (Sends_close g id) i = i
-one_said held (Frees g) i = i
-one_said held (Finishes g true) i = i
-one_said held (Finishes g false) i = i
-
-closed_said : (held : Bool) (id : FlightId) (h : ℕ) (w : Label) → NeverIdle (said_of held (Closes_endpoint id h ∷ w ∷ []))
-closed_said held id h (At_issue xt) i = i
-closed_said held id h (Present xb) i = i
-closed_said held id h (Landing xid) i = i
-closed_said held id h (Refusing xid xwhy) i = i
-closed_said held id h (Credits xid xg) i = i
-closed_said held id h (Discards xid xg) i = i
-closed_said held id h (Installs xid xg) i = i
-closed_said held id h (Starts_closing xid xg) i = i
-closed_said held id h (Closes_endpoint xid xg) i = i
-closed_said held id h (Answers xid xanswer xclosed) i = i
-closed_said held id h (Not_made xwhy) i = i
-closed_said held id h (Makes xg xid) i = i
-closed_said held id h (Revokes xg) i = i
-closed_said held id h (Sends_close xg xid) i = i
-closed_said held id h (Frees xg) i = i
-closed_said held id h (Finishes xg xb) i = i
-
-answer_said : (held : Bool) (id : FlightId) (answer : Answer) (closed : Option ℕ) (w : Label) → NeverIdle (said_of held (Answers id answer closed ∷ w ∷ []))
-answer_said held id answer closed (At_issue xt) i = i
-answer_said held id answer closed (Present xb) i = i
-answer_said held id answer closed (Landing xid) i = i
-answer_said held id answer closed (Refusing xid xwhy) i = i
-answer_said held id answer closed (Credits xid xg) i = i
-answer_said held id answer closed (Discards xid xg) i = i
-answer_said held id answer closed (Installs xid xg) i = i
-answer_said held id answer closed (Starts_closing xid xg) i = i
-answer_said held id answer closed (Closes_endpoint xid xg) i = i
-answer_said held id answer closed (Answers xid xanswer xclosed) i = i
-answer_said held id answer closed (Not_made xwhy) i = i
-answer_said held id answer closed (Makes xg xid) i = i
-answer_said held id answer closed (Revokes xg) i = i
-answer_said held id answer closed (Sends_close xg xid) i = i
-answer_said held id answer closed (Frees xg) i = i
-answer_said held id answer closed (Finishes xg xb) i = i
-
-two_said : (held : Bool) (w v : Label) → NeverIdle (said_of held (w ∷ v ∷ []))
-two_said held (At_issue t) v i = i
-two_said held (Present true) v i = i
-two_said held (Present false) v i = i
-two_said held (Landing id) v i = i
-two_said held (Refusing id why) v i = i
-two_said held (Credits id g) v i = i
-two_said held (Discards id g) v i = i
-two_said held (Installs id g) v i = i
-two_said held (Starts_closing id g) v i = i
-two_said held (Closes_endpoint id h) v i = closed_said held id h v i
-two_said held (Answers id answer closed) v i = answer_said held id answer closed v i
-two_said held (Not_made why) v i = i
-two_said held (Makes g id) v i = i
-two_said held (Revokes g) v i = i
-two_said held (Sends_close g id) v i = i
-two_said held (Frees g) v i = i
-two_said held (Finishes g true) v i = i
-two_said held (Finishes g false) v i = i
-
-closed_more : (held : Bool) (id : FlightId) (g : ℕ) (v u : Label) (ws : List Label) → NeverIdle (said_of held (Closes_endpoint id g ∷ v ∷ u ∷ ws))
-closed_more held id g (At_issue xt) u ws i = i
-closed_more held id g (Present xb) u ws i = i
-closed_more held id g (Landing xid) u ws i = i
-closed_more held id g (Refusing xid xwhy) u ws i = i
-closed_more held id g (Credits xid xg) u ws i = i
-closed_more held id g (Discards xid xg) u ws i = i
-closed_more held id g (Installs xid xg) u ws i = i
-closed_more held id g (Starts_closing xid xg) u ws i = i
-closed_more held id g (Closes_endpoint xid xg) u ws i = i
-closed_more held id g (Answers xid xanswer xclosed) u ws i = i
-closed_more held id g (Not_made xwhy) u ws i = i
-closed_more held id g (Makes xg xid) u ws i = i
-closed_more held id g (Revokes xg) u ws i = i
-closed_more held id g (Sends_close xg xid) u ws i = i
-closed_more held id g (Frees xg) u ws i = i
-closed_more held id g (Finishes xg xb) u ws i = i
-
-answer_more : (held : Bool) (id : FlightId) (answer : Answer) (closed : Option ℕ) (v u : Label) (ws : List Label) → NeverIdle (said_of held (Answers id answer closed ∷ v ∷ u ∷ ws))
-answer_more held id answer closed (At_issue xt) u ws i = i
-answer_more held id answer closed (Present xb) u ws i = i
-answer_more held id answer closed (Landing xid) u ws i = i
-answer_more held id answer closed (Refusing xid xwhy) u ws i = i
-answer_more held id answer closed (Credits xid xg) u ws i = i
-answer_more held id answer closed (Discards xid xg) u ws i = i
-answer_more held id answer closed (Installs xid xg) u ws i = i
-answer_more held id answer closed (Starts_closing xid xg) u ws i = i
-answer_more held id answer closed (Closes_endpoint xid xg) u ws i = i
-answer_more held id answer closed (Answers xid xanswer xclosed) u ws i = i
-answer_more held id answer closed (Not_made xwhy) u ws i = i
-answer_more held id answer closed (Makes xg xid) u ws i = i
-answer_more held id answer closed (Revokes xg) u ws i = i
-answer_more held id answer closed (Sends_close xg xid) u ws i = i
-answer_more held id answer closed (Frees xg) u ws i = i
-answer_more held id answer closed (Finishes xg xb) u ws i = i
-
-more_said : (held : Bool) (w v u : Label) (ws : List Label) → NeverIdle (said_of held (w ∷ v ∷ u ∷ ws))
-more_said held (At_issue t) v u ws i = i
-more_said held (Present true) v u ws i = i
-more_said held (Present false) v u ws i = i
-more_said held (Landing id) v u ws i = i
-more_said held (Refusing id why) v u ws i = i
-more_said held (Credits id g) v u ws i = i
-more_said held (Discards id g) v u ws i = i
-more_said held (Installs id g) v u ws i = i
-more_said held (Starts_closing id g) v u ws i = i
-more_said held (Closes_endpoint id g) v u ws i = closed_more held id g v u ws i
-more_said held (Answers id answer closed) v u ws i = answer_more held id answer closed v u ws i
-more_said held (Not_made why) v u ws i = i
-more_said held (Makes g id) v u ws i = i
-more_said held (Revokes g) v u ws i = i
-more_said held (Sends_close g id) v u ws i = i
-more_said held (Frees g) v u ws i = i
-more_said held (Finishes g true) v u ws i = i
-more_said held (Finishes g false) v u ws i = i
-
-words_said : (held : Bool) (ws : List Label) → NeverIdle (said_of held ws)
-words_said held [] i = i
-words_said held (w ∷ []) i = one_said held w i
-words_said held (w ∷ v ∷ []) i = two_said held w v i
-words_said held (w ∷ v ∷ u ∷ ws) i = more_said held w v u ws i
+use Rattle.m3_trace.proofs.StepsAreNotIdle.{words_said}
+use Rattle.std.proofs.lemmas.Bool.{and_parts}
 
 -- ---- what an idle event leaves
 
@@ -292,10 +127,14 @@ module _ (s : State) (p : Placement) where
   here_stays t q id None e = tt
   here_stays t q id (Some c) e = λ i. absurd (came_said id (places_landing.landing_steps s id) (ideal_run (places_landing.landing_steps s id) s) c e i)
 
+  bounced_stays : (q : Placement) (t : ℕ) (id : FlightId) (o : Option ℕ) → Stays (places_take.bounced s q t id o)
+  bounced_stays q t id None = tt
+  bounced_stays q t id (Some a) = λ i. absurd i
+
   tile_stays : (q : Placement) (t : ℕ) (x : LinkToken) → Stays (places_take.take_at_tile s q t x)
   tile_stays q t (places_state.Data id) =
-      if_stays ((t == 1) || places_take.is_here (places_routing.target_of (flight id s.flights)) (places_state.current_of t q)) (places_take.land_here t q (places_landing.landing_result s id)) (step_outcome (Said.Bounced id) s (places_state.with_token t 0 (places_state.Data id) q))
-      (here_stays t q id (places_landing.landing_result s id) refl) (λ i. absurd i)
+      if_stays ((t == 1) || places_take.is_here (places_routing.target_of (flight id s.flights)) (places_state.current_of t q)) (places_take.land_here t q (places_landing.landing_result s id)) (places_take.bounced s q t id (places_routing.target_of (flight id s.flights)))
+      (here_stays t q id (places_landing.landing_result s id) refl) (bounced_stays q t id (places_routing.target_of (flight id s.flights)))
   tile_stays q t (places_state.Save a) = λ i. absurd i
   tile_stays q t (places_state.Restore a) = λ i. absurd i
   tile_stays q t (places_state.Saved a w e) = tt
@@ -450,15 +289,11 @@ steps_none (Event.Order (Order.Revoke g)) None why r k = absurd (cc)
 steps_none (Event.Order (Order.Revoke g)) (Some m) why r k = absurd (cc)
 steps_none (Event.File line) made why r k = refl
 
-first_true : (a c : Bool) → (a && c) ≡ true → a ≡ true
-first_true true c k = refl
-first_true false c k = absurd (cc)
-
 -- an idle entry has no steps
 pub idle_state : (s : State) (e : Event) (o : Outcome) → IsIdle o.said → is_allowed_outcome e o ≡ true → next_state s (entry e o) ≡ s
 idle_state s e o i b =
     let w = idle_word o.said i in
     let none : steps_of e o ≡ [] =
     ap (λ (x : Said). steps_of e (record { made = o.made; said = x; restore = o.restore })) w.1
-    ∙ steps_none e o.made w.0 o.restore (subst (λ (x : Said). allows_outcome e o.made x ≡ true) w.1 (first_true (allows_outcome e o.made o.said) (may_restore e o.said o.restore) b)) in
+    ∙ steps_none e o.made w.0 o.restore (subst (λ (x : Said). allows_outcome e o.made x ≡ true) w.1 (and_parts (allows_outcome e o.made o.said) (may_restore e o.said o.restore) b).0) in
     ap (λ (steps : List Step). ran_to (ideal_run steps s) s) none

@@ -6,15 +6,18 @@ use Rattle.m3_base.specs.Setup.Rules.{SetupValue, IsValid}
 use Rattle.m3_base.specs.Placement.State.{Placement}
 use Rattle.m3_base.specs.Placement.EntryStep.{IsPlacementStep}
 use Rattle.m3_base.specs.Journal.Entry.{EntryMatches, next_state, state_after_entries, IsRun}
-use Rattle.m3_laws.specs.NoConfigInFlight.{InvariantWithoutConfig}
-use Rattle.m3_laws.proofs.journals.NoConfigInFlight.{quiet_invariant_opening}
+use Rattle.m3_base.specs.Ideal.Opening.{opening}
+use Rattle.m3_laws.specs.Invariant.{Invariant}
+use Rattle.m3_laws.proofs.invariant.step.Invariant.{invariant_opening}
 use Rattle.m3_model.specs.Config.Site.{Site}
 use Rattle.m3_model.specs.Machine.{Machine}
 use Rattle.m3_model.specs.Abstraction.{ideal_of, placement_of}
 use Rattle.m3_trace.specs.Invariant.{MachineInvariant, StepRefines, PlacementRun, RunRefines}
 use Rattle.m3_trace.specs.Opening.{site, opened_by_setup}
 use Rattle.m3_trace.proofs.ValidSetup.{valid_sound, opens_as}
-use Rattle.m3_trace.proofs.OpeningUnchanged.{opened_still}
+use Rattle.m3_refine.proofs.bounds.MemorySize.{memory_at_opening}
+use Rattle.m3_refine.proofs.bounds.ShutGrants.{shut_at_opening}
+use Rattle.m3_refine.proofs.ways.WayOpens.{opens_way}
 
 run_more : (s : State) (es : List Entry) (e : Entry) → IsRun s es → EntryMatches (state_after_entries s es) e → IsRun s (es ++ e ∷ [])
 run_more s [] e run says = (says, tt)
@@ -41,4 +44,10 @@ more_ran h old mid new es e ran means = record {
 
 -- a machine that a setup opens is kept
 pub opened_kept : (s : SetupValue) → IsValid s → MachineInvariant (site s) (opened_by_setup s)
-opened_kept s v = record { sound = valid_sound s v; law = subst InvariantWithoutConfig (sym (opens_as s v).0) (quiet_invariant_opening s v); still = opened_still s }
+opened_kept s v = record {
+  sound = valid_sound s v;
+  law = subst Invariant (sym (opens_as s v).0) (invariant_opening s v);
+  way = opens_way (site s) (opening s.memory s.lines);
+  shut = shut_at_opening s.memory [] s.lines;
+  memory = memory_at_opening s.memory [] s.lines;
+}

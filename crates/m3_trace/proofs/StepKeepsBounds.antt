@@ -1,23 +1,24 @@
 -- Each step that is served keeps next numbers and next tokens low, and contexts that come back have low ones.
-use Rattle.std.proofs.Common.{◌≡◌, ℕ, suc, ◌+◌, ◌≤◌, Bool, true, false, List, [], ◌∷◌, get_or, length, Some, None, refl, sym, subst, arith}
+use Rattle.std.proofs.Common.{◌≡◌, ℕ, suc, ◌+◌, ◌≤◌, Bool, true, false, List, [], ◌∷◌, get_or, Option, Some, None, refl, subst, arith}
 use Rattle.std.specs.Prelude.{◌&&◌, nat_le, ◌==◌, if◌then◌else◌}
 use Rattle.std.specs.List.{list_all}
 use Rattle.std.proofs.lemmas.Bool.Decides.{nat_tests}
 use Rattle.m3_base.specs.declared.command.Command.{Command}
 use Rattle.m3_base.specs.declared.event.Event.{Event}
-use Rattle.m3_base.specs.declared.order.Order.{Order}
+use Rattle.m3_base.specs.declared.event.Made.{Made}
 use Rattle.m3_base.specs.Ideal.Context.{Context, Endpoint, Free}
 use Rattle.m3_model.specs.Config.KnownActivities.{most_next, next_token_at, has_bounded_token, has_bounded_counters}
 use Rattle.m3_model.specs.Config.Site.{Site, tile_of}
 use Rattle.m3_model.specs.Parcel.{Parcel}
-use Rattle.m3_model.specs.Kernel.Step.{entry_of, switch, kernel_take, kernel_tend}
+use Rattle.m3_model.specs.Kernel.Step.{kernel_take, kernel_tend, kernel_order, kernel_close}
 use Rattle.m3_model.specs.Machine.{Machine, Part, Kernel_part, Memory_part, Tile_part, MachineResult, empty_tile, tile_at, of_kernel, link_at, part_at, part_step, tile_for_event, parcel_taken, front, machine_step}
 use Rattle.m3_model.specs.NumberBounds.{HasBoundedCounters, TileBounded, ParcelBounded, LinkBounded, CountersBounded, RestoresBounded}
 use Rattle.m3_model.specs.Events.{IsServed}
 use Rattle.m3_refine.proofs.lists.EachElement.{each_read}
 use Rattle.m3_refine.proofs.bounds.BoundsOfParts.{LowPart, LowMade, low_seats_more, low_in_more, low_deed_more, low_at_link, low_done}
 use Rattle.m3_refine.proofs.bounds.TileKeepsBounds.{do_low, take_low, memory_low}
-use Rattle.m3_refine.proofs.bounds.KernelKeepsBounds.{kernel_take_low, kernel_tend_low, kernel_switch_low}
+use Rattle.m3_refine.proofs.bounds.TurnKeepsBounds.{turn_low}
+use Rattle.m3_refine.proofs.bounds.KernelKeepsBounds.{kernel_take_low, kernel_tend_low, kernel_order_low, kernel_close_low}
 
 module _ (h : Site) (n : ℕ) where
   nothing_low : (x : Part) (to from : ℕ) → LowPart n x → LowMade (n + 1) (part_step h x (Event.Take to from) None None)
@@ -58,15 +59,16 @@ module _ (h : Site) (n : ℕ) where
     made_low (Event.Do a c) s = command_low (part_at (tile_of h a) m) a c (part_low (tile_of h a))
     made_low (Event.Take to from) s = link_low to from (link_at from to m) (low_at_link n from to m low)
     made_low (Event.Tend a) s = low_deed_more n (of_kernel (kernel_tend h m.kernel a)) (kernel_tend_low h n m.kernel a low.seats)
-    made_low (Event.Order (Order.Switch t a)) s = low_deed_more n (of_kernel (switch h m.kernel t (entry_of a m.kernel))) (kernel_switch_low h n m.kernel t a low.seats)
-    made_low (Event.Order (Order.Grant line)) s = absurd s
-    made_low (Event.Order (Order.Revoke g)) s = absurd s
+    made_low Event.Close s = low_deed_more n (of_kernel (kernel_close h m.kernel)) (kernel_close_low h n m.kernel low.seats)
+    made_low (Event.Order o) s = low_deed_more n (of_kernel (kernel_order h m.kernel o)) (kernel_order_low h n m.kernel o low.seats)
     made_low (Event.Turn a) s = absurd s
-    made_low Event.Close s = absurd s
     made_low (Event.File l) s = absurd s
 
     pub step_low : (e : Event) (d : MachineResult) → IsServed e → machine_step h m e None ≡ Some d → CountersBounded (n + 1) d.machine
     step_low e d s is = low_done n (tile_for_event h e) e m (part_step h (part_at (tile_for_event h e) m) e None (parcel_taken e m)) d low (made_low e s) is
+
+    pub turn_step_low : (a : ℕ) (made : Option Made) (d : MachineResult) → machine_step h m (Event.Turn a) made ≡ Some d → CountersBounded (n + 1) d.machine
+    turn_step_low a made d is = low_done n (tile_of h a) (Event.Turn a) m (part_step h (part_at (tile_of h a) m) (Event.Turn a) made None) d low (turn_low h n (part_at (tile_of h a) m) (part_low (tile_of h a)) a made) is
 
 -- ---- what comes back
 

@@ -21,33 +21,44 @@ use Rattle.m3_model.specs.Events.{IsOfSetup, IsServed}
 use Rattle.m3_trace.specs.Invariant.{MachineInvariant, StepRefines}
 use Rattle.m3_model.specs.Events.{IsWithin}
 use Rattle.m3_refine.proofs.labels.OutcomeBelongs.{form_of}
+use Rattle.m3_refine.proofs.labels.OrderOutcomeBelongs.{HolderIsSeated}
 use Rattle.m3_refine.proofs.theorem.NoProgramMoves.{IsNoTurn, OrdersTile, TameIn, part_tame}
 use Rattle.m3_refine.proofs.theorem.StepIsLocalMove.{tile_below, step_moves}
-use Rattle.m3_trace.proofs.ConfigUnchanged.{still_kept}
+use Rattle.m3_refine.proofs.bounds.MemorySize.{memory_kept}
+use Rattle.m3_refine.proofs.bounds.ShutGrants.{closing_not_live, shut_kept}
+use Rattle.m3_refine.proofs.ways.WaySteps.{way_kept}
+use Rattle.m3_refine.proofs.events.order.CloseRefines.{close_refines}
+use Rattle.m3_refine.proofs.events.order.GrantRefines.{grant_refines}
+use Rattle.m3_refine.proofs.events.order.RevokeRefines.{revoke_refines}
+use Rattle.m3_refine.proofs.events.take.RouteRefines.{known_activity}
 use Rattle.m3_refine.proofs.events.command.CommandRefines.{do_refines}
 use Rattle.m3_refine.proofs.events.take.TakeRefines.{take_refines}
 use Rattle.m3_refine.proofs.events.tend.TendRefines.{tend_refines}
 use Rattle.m3_refine.proofs.events.order.SwitchRefines.{switch_refines}
 use Rattle.m3_refine.proofs.labels.OrdersSayIdealSteps.{HasContext}
 use Rattle.m3_trace.proofs.FromIdealInvariant as laws
-use Rattle.m3_trace.proofs.FromIdealInvariant.{quiet_hypotheses, quiet_kept}
-use Rattle.m3_laws.proofs.journals.EntriesKeepInvariant.{EventSendsNoConfig}
+use Rattle.m3_laws.specs.JournalLaws.{FitsEvent}
+use Rattle.m3_base.specs.Ideal.State.{holder}
+use Rattle.m3_model.specs.Invariant.Housing.{IsPresent}
+use Rattle.m3_model.specs.Invariant.Structure.{MachineStructure}
+use Rattle.m3_model.specs.Kernel.State.{ActivityEntry}
+use Rattle.m3_model.specs.Kernel.Step.{entry_of}
 
 -- ---- an event that is served is a step of the places
 
 module _ (h : Site) (m : Machine) (kept : MachineInvariant h m) (low : RestoresBounded m) where
   hyp : IdealFacts m
-  hyp = quiet_hypotheses h m kept.sound kept.law.law kept.law.quiet
+  hyp = laws.hypotheses h m kept.sound kept.law kept.way
 
   served_refines : (e : Event) → IsOfSetup h e → IsWithin e → IsServed e → Refines h m e None (machine_step h m e None)
   served_refines (Event.Do a x) own within s = do_refines h m a x None kept.sound hyp own
   served_refines (Event.Take to from) own within s = take_refines h m kept.sound hyp low from within.1 to within.0
   served_refines (Event.Tend a) own within s = tend_refines h m kept.sound hyp a None own
+  served_refines Event.Close own within s = close_refines h m kept.sound hyp None
   served_refines (Event.Order (Order.Switch t a)) own within s = switch_refines h m kept.sound t a None own
+  served_refines (Event.Order (Order.Grant line)) own within s = grant_refines h m kept.sound hyp kept.shut kept.memory line own.0 None
+  served_refines (Event.Order (Order.Revoke g)) own within s = revoke_refines h m kept.sound g None (closing_not_live h m kept.sound kept.shut)
   served_refines (Event.Turn a) own within s = absurd s
-  served_refines Event.Close own within s = absurd s
-  served_refines (Event.Order (Order.Grant line)) own within s = absurd s
-  served_refines (Event.Order (Order.Revoke g)) own within s = absurd s
   served_refines (Event.File l) own within s = absurd s
 
 -- ---- no program makes a move
@@ -78,16 +89,31 @@ plain_done t m (Some x) d p e = let same : x.outcome ≡ d.outcome = cc in ap (�
 
 -- ---- what a step means
 
-quiet : (e : Event) → IsServed e → EventSendsNoConfig e
-quiet (Event.Do a x) s = tt
-quiet (Event.Take to from) s = tt
-quiet (Event.Turn a) s = tt
-quiet (Event.Tend a) s = tt
-quiet Event.Close s = absurd s
-quiet (Event.Order (Order.Switch t a)) s = tt
-quiet (Event.Order (Order.Grant line)) s = absurd s
-quiet (Event.Order (Order.Revoke g)) s = tt
-quiet (Event.File l) s = tt
+-- the numbers of a grant's line are in their ranges
+pub setup_fits : (h : Site) (e : Event) → IsOfSetup h e → FitsEvent e
+setup_fits h (Event.Do a c) own = tt
+setup_fits h (Event.Take to from) own = tt
+setup_fits h (Event.Tend a) own = tt
+setup_fits h (Event.Turn a) own = tt
+setup_fits h Event.Close own = tt
+setup_fits h (Event.Order (Order.Switch t a)) own = tt
+setup_fits h (Event.Order (Order.Grant line)) own = own.1
+setup_fits h (Event.Order (Order.Revoke g)) own = tt
+setup_fits h (Event.File l) own = tt
+
+-- its holder has a seat
+holder_seated : (h : Site) (m : Machine) → MachineStructure h m → (e : Event) → IsOfSetup h e → HolderIsSeated m.kernel e
+holder_seated h m sound (Event.Do a c) own = tt
+holder_seated h m sound (Event.Take to from) own = tt
+holder_seated h m sound (Event.Tend a) own = tt
+holder_seated h m sound (Event.Turn a) own = tt
+holder_seated h m sound Event.Close own = tt
+holder_seated h m sound (Event.Order (Order.Switch t a)) own = tt
+holder_seated h m sound (Event.Order (Order.Grant line)) own =
+    let its = known_activity h m (holder line) sound own.0 in
+    subst (λ (o : Option ActivityEntry). IsPresent o) (sym (subst (λ n. entry_of n m.kernel ≡ Some its.seat) its.key its.its.seat)) tt
+holder_seated h m sound (Event.Order (Order.Revoke g)) own = tt
+holder_seated h m sound (Event.File l) own = tt
 
 no_turn : (m : Machine) (e : Event) → IsServed e → HasContext (ideal_of m) e
 no_turn m (Event.Do a x) s = tt
@@ -120,18 +146,20 @@ module _ (h : Site) (m : Machine) (e : Event) (o : Outcome) (next : Machine) (st
   moves_as (Event.Tend a) is s = subst (λ (f : Event). (d : places_landing.PlacementResult) × (placement_step (ideal_of m) (placement_of h m) f o.made ≡ Some d) × Allows d o (placement_of h next)) (sym is) stepped
   moves_as (Event.Order r) is s = subst (λ (f : Event). (d : places_landing.PlacementResult) × (placement_step (ideal_of m) (placement_of h m) f o.made ≡ Some d) × Allows d o (placement_of h next)) (sym is) stepped
   moves_as (Event.Turn a) is s = absurd s
-  moves_as Event.Close is s = absurd s
+  moves_as Event.Close is s = subst (λ (f : Event). (d : places_landing.PlacementResult) × (placement_step (ideal_of m) (placement_of h m) f o.made ≡ Some d) × Allows d o (placement_of h next)) (sym is) stepped
   moves_as (Event.File l) is s = absurd s
 
   pub means : StepRefines h m (record { event = e; outcome = o }) next
   means = record {
     says = subst (λ (z : Option Made). MatchesBy (steps_of e (record { made = z; said = o.said; restore = o.restore })) (ideal_of m) o.said) (sym plain) (laws.says h m e None did (no_turn m e served) refined).0;
     reaches = subst (λ (z : Option Made). ran_to (ideal_run (steps_of e (record { made = z; said = o.said; restore = o.restore })) (ideal_of m)) (ideal_of m) ≡ ideal_of next) (sym plain) (laws.says h m e None did (no_turn m e served) refined).1;
-    placed = record { form = form_of h m e o next step served; moves = moves_as e refl served };
+    placed = record { form = form_of h m e o next step served (holder_seated h m kept.sound e own); moves = moves_as e refl served };
     moves = step_moves h m e kept.sound within (unmade e served) (orders e served within) did step;
     kept = record {
       sound = refined.1;
-      law = quiet_kept h m e None did (no_turn m e served) refined (quiet e served) kept.law;
-      still = still_kept h m e did served kept.still step;
+      law = laws.law_kept h m e None did (no_turn m e served) refined (setup_fits h e own) kept.law;
+      way = way_kept h m kept.sound kept.way e None did within step;
+      shut = shut_kept h m e None did kept.shut step;
+      memory = memory_kept h m e None did kept.memory step;
     };
   }

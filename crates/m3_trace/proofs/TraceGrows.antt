@@ -1,9 +1,9 @@
 -- A journal grows by an entry with each step of its machine, and what its clauses say of the whole.
-use Rattle.std.proofs.Common.{◌≡◌, ℕ, ◌+◌, ◌<◌, ◌≤◌, List, [], ◌∷◌, ◌++◌, length, length-append, None, Some, refl, sym, subst, ap, ◌∙◌, arith}
+use Rattle.std.proofs.Common.{◌≡◌, ℕ, ◌+◌, ◌<◌, ◌≤◌, List, [], ◌∷◌, ◌++◌, length, length-append, Option, None, Some, sym, subst, ap, ◌∙◌, arith}
 use Rattle.m3_base.specs.declared.event.Event.{Event}
 use Rattle.m3_base.specs.declared.event.Entry.{Entry}
+use Rattle.m3_base.specs.declared.event.Made.{Made}
 use Rattle.m3_base.specs.declared.event.Outcome.{Outcome}
-use Rattle.m3_base.specs.declared.order.Order.{Order}
 use Rattle.m3_base.specs.Journal.Entry.{state_after_entries, IsRun, steps_of}
 use Rattle.m3_base.specs.Journal.Replies.{steps_in}
 use Rattle.m3_base.specs.Ideal.Opening.{opening}
@@ -11,7 +11,7 @@ use Rattle.m3_base.specs.Placement.State.{Placement}
 use Rattle.m3_base.specs.Placement.Opening.{opening_placement}
 use Rattle.m3_base.specs.Setup.Rules.{SetupValue, IsValid}
 use Rattle.m3_base.specs.Ideal.State.{State}
-use Rattle.m3_laws.specs.JournalLaws.{FitsEvent, KeepsLaws, AfterEach}
+use Rattle.m3_laws.specs.JournalLaws.{KeepsLaws, AfterEach}
 use Rattle.m3_laws.specs.Laws.{AllFit}
 use Rattle.m3_laws.proofs.journals.EntriesKeepInvariant.{event_fits}
 use Rattle.m3_laws.proofs.journals.LawsAfterEntries.{fit_both, fit_front, fit_back, journal_laws}
@@ -20,31 +20,19 @@ use Rattle.m3_model.specs.Events.{IsOfSetup, IsServed, IsWithin}
 use Rattle.m3_model.specs.NumberBounds.{CountersBounded}
 use Rattle.m3_model.specs.Machine.{Machine, machine_step}
 use Rattle.m3_model.specs.KernelNumber.{HasLowKernel}
-use Rattle.m3_model.specs.Ways.{IsOnWay}
 use Rattle.m3_refine.proofs.bounds.KernelNumber.{low_kernel}
-use Rattle.m3_refine.proofs.ways.WaySteps.{way_kept}
-use Rattle.m3_refine.proofs.ways.WayOpens.{opens_way, opens_low_kernel}
-use Rattle.m3_trace.specs.Invariant.{MachineInvariant, StepRefines, PlacementRun, RunRefines}
+use Rattle.m3_refine.proofs.ways.WayOpens.{opens_low_kernel}
+use Rattle.m3_trace.specs.Invariant.{StepRefines, PlacementRun}
 use Rattle.m3_trace.specs.Opening.{site, opened_by_setup, entry}
 use Rattle.m3_trace.specs.Trace.{IsTrace}
 use Rattle.m3_trace.proofs.FlightCountBound.{journal_few}
-use Rattle.m3_trace.proofs.StepRefinement.{means}
+use Rattle.m3_trace.proofs.NoPrograms.{programs_kept}
+use Rattle.m3_trace.proofs.OpensWithoutPrograms.{opens_without_programs}
+use Rattle.m3_trace.proofs.StepRefinement.{setup_fits, means}
 use Rattle.m3_trace.proofs.RunRefinement.{none_ran, more_ran, opened_kept}
-use Rattle.m3_trace.proofs.StepKeepsBounds.{step_low, low_comes}
+use Rattle.m3_trace.proofs.StepKeepsBounds.{step_low, low_comes, turn_step_low}
+use Rattle.m3_trace.proofs.TurnRefinement.{turn_means}
 use Rattle.m3_trace.proofs.ValidSetup.{opens_as}
-
--- ---- what orders name
-
-served_fits : (e : Event) → IsServed e → FitsEvent e
-served_fits (Event.Do a c) k = tt
-served_fits (Event.Take to from) k = tt
-served_fits (Event.Tend a) k = tt
-served_fits (Event.Order (Order.Switch t a)) k = tt
-served_fits (Event.Order (Order.Grant line)) k = absurd k
-served_fits (Event.Order (Order.Revoke g)) k = absurd k
-served_fits (Event.Turn a) k = absurd k
-served_fits Event.Close k = absurd k
-served_fits (Event.File l) k = absurd k
 
 more_fit : (es : List Entry) (x : Entry) → AllFit (steps_in es) → AllFit (steps_of x.event x.outcome) → AllFit (steps_in (es ++ x ∷ []))
 more_fit [] x fit new = fit_both (steps_of x.event x.outcome) [] new tt
@@ -54,7 +42,7 @@ more_fit (e ∷ es) x fit new =
 
 -- the journal of a machine that was opened has no entry
 pub opened_trace : (s : SetupValue) → IsValid s → CountersBounded 0 (opened_by_setup s) → IsTrace s [] (opened_by_setup s)
-opened_trace s valid low = record { valid = valid; few = omega arith; low = low; number = opens_low_kernel s.memory [] s.lines; way = opens_way (site s) (opening s.memory s.lines); ran = none_ran (site s) (opened_by_setup s) (opened_kept s valid); fit = tt }
+opened_trace s valid low = record { valid = valid; few = omega arith; low = low; number = opens_low_kernel s.memory [] s.lines; programs = opens_without_programs s; ran = none_ran (site s) (opened_by_setup s) (opened_kept s valid); fit = tt }
 
 module _ (s : SetupValue) (entries : List Entry) (m : Machine) (trace : IsTrace s entries m) where
   -- what a step means
@@ -71,9 +59,25 @@ module _ (s : SetupValue) (entries : List Entry) (m : Machine) (trace : IsTrace 
         few = omega arith;
         low = subst (λ (n : ℕ). CountersBounded n next) (sym one) (step_low (site s) (length entries) m trace.low e (record { outcome = o; machine = next }) served step);
         number = subst (λ (n : ℕ). HasLowKernel n next) (sym one) (low_kernel (site s) m e None (length entries) (record { outcome = o; machine = next }) trace.number step);
-        way = way_kept (site s) m trace.ran.kept.sound trace.way e None (record { outcome = o; machine = next }) within step;
+        programs = programs_kept (site s) m e None (record { outcome = o; machine = next }) trace.programs step;
         ran = more_ran (site s) (opened_by_setup s) m next entries (entry e o) trace.ran (step_means e o next own within served step);
-        fit = more_fit entries (entry e o) trace.fit (event_fits e o (served_fits e served));
+        fit = more_fit entries (entry e o) trace.fit (event_fits e o (setup_fits (site s) e own));
+      }
+
+  -- and so does a program's turn
+  pub more_trace_turn : (a : ℕ) (made : Option Made) (o : Outcome) (next : Machine) → length entries < 2097152 → machine_step (site s) m (Event.Turn a) made ≡ Some (record { outcome = o; machine = next })
+      → IsTrace s (entries ++ entry (Event.Turn a) o ∷ []) next
+  more_trace_turn a made o next room step =
+      let e = Event.Turn a in
+      let one : length (entries ++ entry e o ∷ []) ≡ length entries + 1 = length-append entries (entry e o ∷ []) in
+      record {
+        valid = trace.valid;
+        few = omega arith;
+        low = subst (λ (n : ℕ). CountersBounded n next) (sym one) (turn_step_low (site s) (length entries) m trace.low a made (record { outcome = o; machine = next }) step);
+        number = subst (λ (n : ℕ). HasLowKernel n next) (sym one) (low_kernel (site s) m e made (length entries) (record { outcome = o; machine = next }) trace.number step);
+        programs = programs_kept (site s) m e made (record { outcome = o; machine = next }) trace.programs step;
+        ran = more_ran (site s) (opened_by_setup s) m next entries (entry e o) trace.ran (turn_means (site s) m a made o next step trace.ran.kept);
+        fit = more_fit entries (entry e o) trace.fit (event_fits e o tt);
       }
 
   -- ---- what the journal is

@@ -1,14 +1,12 @@
 -- What holds of the machine between any two steps, and what a step of it means.
-use Rattle.std.specs.Prelude.{◌≡◌, ℕ, ◌<◌, false, List, [], ◌∷◌}
-use Rattle.m3_base.specs.declared.event.Event.{Event}
+use Rattle.std.specs.Prelude.{◌≡◌, ℕ, false, List, [], ◌∷◌}
 use Rattle.m3_base.specs.declared.event.Entry.{Entry}
-use Rattle.m3_base.specs.declared.order.Order.{Order}
 use Rattle.m3_base.specs.Journal.Entry.{EntryMatches, next_state, state_after_entries, IsRun}
-use Rattle.m3_base.specs.Ideal.State.{State, Live, Grant}
+use Rattle.m3_base.specs.Ideal.State.{State}
 use Rattle.m3_base.specs.Lists.EachElement.{Each}
 use Rattle.m3_base.specs.Placement.State.{Placement}
 use Rattle.m3_base.specs.Placement.EntryStep.{IsPlacementStep}
-use Rattle.m3_laws.specs.NoConfigInFlight.{InvariantWithoutConfig}
+use Rattle.m3_laws.specs.Invariant.{Invariant}
 use Rattle.m3_model.specs.Config.Site.{Site}
 use Rattle.m3_model.specs.Kernel.State.{Kernel}
 use Rattle.m3_model.specs.Kernel.Step.{ready_at}
@@ -16,24 +14,26 @@ use Rattle.m3_model.specs.Machine.{Machine}
 use Rattle.m3_model.specs.Abstraction.{ideal_of, placement_of}
 use Rattle.m3_model.specs.LocalMoves.{MovesByEntry}
 use Rattle.m3_model.specs.Invariant.Structure.{MachineStructure}
+use Rattle.m3_model.specs.MemorySize.{HasMemorySize}
+use Rattle.m3_model.specs.ShutGrants.{SentAreShut}
+use Rattle.m3_model.specs.Ways.{IsOnWay}
 
--- a grant that stands as it was made
-pub record IsPristine (x : Grant) : Type 0 where
-  pub live : x.standing ≡ Live
-  pub unsent : x.close_sent ≡ false
-
--- no activity has a program, so none is ready, and every grant stands as it was made
-pub record ConfigUnchanged (h : Site) (k : Kernel) : Type 0 where
-  pub programs : Each (λ x. x.has_program ≡ false) h.homes
+-- no activity has a program, so none is ready
+pub record HasNoPrograms (h : Site) (k : Kernel) : Type 0 where
+  pub none : Each (λ x. x.has_program ≡ false) h.homes
   pub ready : (t : ℕ) → ready_at t k ≡ []
-  pub grants : Each IsPristine k.grants
 
--- its places are in order, its ideal state keeps the ideal machine's invariant, and its kernel was given no order but
--- switches
 pub record MachineInvariant (h : Site) (m : Machine) : Type 0 where
+  -- its places are in order
   pub sound : MachineStructure h m
-  pub law : InvariantWithoutConfig (ideal_of m)
-  pub still : ConfigUnchanged h m.kernel
+  -- its ideal state keeps the ideal machine's invariant
+  pub law : Invariant (ideal_of m)
+  -- no Install of a grant stands behind its Close on the way to their activity
+  pub way : IsOnWay h m
+  -- the Close of a live grant wasn't sent
+  pub shut : SentAreShut m.kernel.grants
+  -- memory is as large as the setup says
+  pub memory : HasMemorySize h m
 
 -- the entry says what its ideal steps say, they lead to the state that the machine then stands for, it is a step of the
 -- places, and just the part of its tile moved, with the links by what that part took and sent

@@ -1,16 +1,13 @@
 -- A machine with its setup and its journal: the journal is a run from the setup's opening to what the machine stands for.
-use Rattle.std.specs.Prelude.{◌≡◌, ◌≤◌, ◌++◌, ◌∷◌, [], List, length, None, Some}
-use Rattle.m3_base.specs.declared.event.Event.{Event}
+use Rattle.std.specs.Prelude.{◌≤◌, List, length}
 use Rattle.m3_base.specs.declared.event.Entry.{Entry}
-use Rattle.m3_base.specs.declared.event.Outcome.{Outcome}
 use Rattle.m3_base.specs.Journal.Replies.{steps_in}
 use Rattle.m3_base.specs.Setup.Rules.{SetupValue, IsValid}
 use Rattle.m3_laws.specs.Laws.{AllFit}
 use Rattle.m3_model.specs.Machine.{Machine}
 use Rattle.m3_model.specs.NumberBounds.{CountersBounded}
 use Rattle.m3_model.specs.KernelNumber.{HasLowKernel}
-use Rattle.m3_model.specs.Ways.{IsOnWay}
-use Rattle.m3_trace.specs.Invariant.{RunRefines}
+use Rattle.m3_trace.specs.Invariant.{HasNoPrograms, RunRefines}
 use Rattle.m3_trace.specs.Opening.{site, opened_by_setup}
 
 pub record IsTrace (s : SetupValue) (entries : List Entry) (m : Machine) : Type 0 where
@@ -20,8 +17,7 @@ pub record IsTrace (s : SetupValue) (entries : List Entry) (m : Machine) : Type 
   -- and no number is larger than there are entries
   pub low : CountersBounded (length entries) m
   pub number : HasLowKernel (length entries) m
-  -- no Install of a grant stands behind its Close on the way to their activity
-  pub way : IsOnWay (site s) m
+  pub programs : HasNoPrograms (site s) m.kernel
   pub ran : RunRefines (site s) (opened_by_setup s) entries m
   -- what its orders name is in its ranges
   pub fit : AllFit (steps_in entries)

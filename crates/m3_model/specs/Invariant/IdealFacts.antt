@@ -1,12 +1,12 @@
 -- What the invariant of the ideal state gives, at the state of a machine.
-use Rattle.std.specs.Prelude.{◌≡◌, ℕ, ◌+◌, ◌≤◌, Bool, true, false, List, [], ◌∷◌, length, Some, None, ◌⊎◌}
+use Rattle.std.specs.Prelude.{◌≡◌, ℕ, ◌+◌, ◌≤◌, true, false, List, [], ◌∷◌, length, Some, None, ◌⊎◌}
 use Rattle.m3_base.specs.declared.ids.FlightId.{FlightId}
 use Rattle.m3_base.specs.declared.packet.Packet.{Packet}
 use Rattle.m3_base.specs.Ideal.Flights.{flight}
 use Rattle.m3_base.specs.Ideal.Context.{Context, endpoint}
 use Rattle.m3_base.specs.Ideal.Issue.{next_id}
 use Rattle.m3_base.specs.Ideal.Landing.{grant_of, has_closing}
-use Rattle.m3_base.specs.Ideal.State.{Standing, Live, Closing, Grant, grant_in, holder, holder_ep, context_of}
+use Rattle.m3_base.specs.Ideal.State.{Grant, grant_in, context_of}
 use Rattle.m3_base.specs.Placement.Routing.{target}
 use Rattle.m3_base.specs.Ideal.Acceptance.{fits}
 use Rattle.m3_model.specs.Parcel.{Parcel, Data}
@@ -14,21 +14,9 @@ use Rattle.m3_model.specs.Kernel.State.{SavedActivity, Is_resting, Is_coming, Ac
 use Rattle.m3_model.specs.Kernel.Step.{entry_of, kernel_id}
 use Rattle.m3_model.specs.Machine.{Machine, tile_at, link_at}
 use Rattle.m3_model.specs.Abstraction.{ideal_of}
+use Rattle.m3_base.specs.Ideal.GrantHolder.{HeldThere}
 
 -- ---- what the ideal state's own invariant gives, at the state of this machine
-
-abbrev pub is_open : Standing → Bool
-is_open Live = true
-is_open Closing = true
-is_open _ = false
-
--- this grant is open, and is held there
-pub record HeldThere (gs : List Grant) (g a ep : ℕ) : Type 0 where
-  pub grant : Grant
-  pub found : grant_in gs g ≡ Some grant
-  pub stands : is_open grant.standing ≡ true
-  pub act : holder grant.line ≡ a
-  pub endpoint : holder_ep grant.line ≡ ep
 
 pub record IdealFacts (m : Machine) : Type 0 where
   -- what comes to the current activity fits it, and so does the front of each hold list

@@ -8,7 +8,7 @@ use Rattle.m3_base.specs.Lists.EachElement.{Each}
 use Rattle.m3_model.specs.Config.Site.{Home, Site, tile_of}
 use Rattle.m3_model.specs.Parcel.{Parcel, Data, Save, Saved, Restore, Yield, Closed}
 use Rattle.m3_model.specs.Tile.State.{Tile}
-use Rattle.m3_model.specs.Kernel.State.{EntryResidency, Is_placed, Is_leaving, Is_resting, Is_coming, ActivityEntry}
+use Rattle.m3_model.specs.Kernel.State.{EntryResidency, Is_placed, Is_leaving, Is_resting, Is_coming, ActivityEntry, Kernel}
 use Rattle.m3_model.specs.Config.KnownActivities.{is_named}
 use Rattle.m3_model.specs.Kernel.Step.{entry_of, is_placed_entry, is_leaving_entry, is_leaving_at, is_coming_entry}
 use Rattle.m3_model.specs.Machine.{Machine, tile_at, link_at}
@@ -54,13 +54,21 @@ EntryOk h ts x Is_leaving = Unit {0}
 EntryOk h ts x (Is_resting y) = (y.context.act ≡ x.act) × EndedFlagIs y.ended (resident_at h ts x.act)
 EntryOk h ts x (Is_coming y) = (y.context.act ≡ x.act) × EndedFlagIs y.ended (resident_at h ts x.act)
 
+-- each of the kernel's entries
+abbrev pub EntriesOk : Site → List Tile → Kernel → Type 0
+EntriesOk h tiles k = (a : ℕ) (x : ActivityEntry) → entry_of a k ≡ Some x → EntryOk h tiles x x.seating × Each (HoldOk h x.act) x.hold
+
+-- the links of the kernel in this machine, for the entries of this kernel
+abbrev pub LinksLeadOn : Site → Machine → Kernel → Type 0
+LinksLeadOn h m k = (t : ℕ) → 2 ≤ t → t < 16 → CurrentAlongLink (current_act (tile_at t m)) (link_at 0 t m) (placed_on h t k)
+
 pub record Scheduling (h : Site) (m : Machine) : Type 0 where
-  pub seats : (a : ℕ) (x : ActivityEntry) → entry_of a m.kernel ≡ Some x → EntryOk h m.tiles x x.seating × Each (HoldOk h x.act) x.hold
+  pub seats : EntriesOk h m.tiles m.kernel
   -- a tile with activities has one that is Placed or one that comes, and at most one that leaves
   pub filled : (t : ℕ) → how_many (is_placed_at h t) m.kernel.seats + how_many (is_coming_at h t) m.kernel.seats ≡ one (has_home t h.homes)
   pub leaving : (t : ℕ) → how_many (is_leaving_at h t) m.kernel.seats ≤ how_many (is_coming_at h t) m.kernel.seats
   -- a Leaving one has exactly one Save or Saved on a link
   pub departing : (a : ℕ) → saves_in_flight a m.links ≡ one (is_leaving_of (entry_of a m.kernel))
   -- the kernel's links, walked along from who is current, lead to who is Placed
-  pub walks : (t : ℕ) → 2 ≤ t → t < 16 → CurrentAlongLink (current_act (tile_at t m)) (link_at 0 t m) (placed_on h t m.kernel)
+  pub walks : LinksLeadOn h m m.kernel
   pub orderly : (t : ℕ) → t < 16 → YieldsBeforeSaved (link_at t 0 m)

@@ -3,7 +3,7 @@ use Rattle.std.proofs.Common.{◌≡◌, ℕ, Bool, true, false, cond, List, [],
 use Rattle.std.specs.Prelude.{Option, ◌==◌}
 use Rattle.std.proofs.lemmas.Bool.Decides.{nat_tests}
 use Rattle.m3_base.specs.Ideal.Context.{Context}
-use Rattle.m3_base.specs.Ideal.State.{context_of, new_context_in, put_context}
+use Rattle.m3_base.specs.Ideal.State.{context_of, new_context_in, put_context, DistinctActs}
 use Rattle.m3_base.specs.Lists.EachElement.{Each}
 use Rattle.m3_merge.proofs.MergedIsRun.{each_append}
 use Rattle.m3_merge.proofs.StampBounds.{each_front, each_back}
@@ -11,12 +11,12 @@ use Rattle.m3_model.specs.Config.Site.{Home}
 use Rattle.m3_model.specs.Tile.State.{Resident}
 use Rattle.m3_model.specs.Kernel.State.{ActivityEntry}
 use Rattle.m3_model.specs.Abstraction.{sorted_by_act, actor_by}
-use Rattle.m3_model.specs.Invariant.Distinct.{DistinctActs}
 use Rattle.m3_model.specs.Invariant.Housing.{IsPresent}
 use Rattle.m3_model.specs.Invariant.Parcels.{EndedFlagIs}
 use Rattle.m3_refine.proofs.abstraction.MoveWithinMachine.{by_act-inserts}
 use Rattle.m3_refine.proofs.abstraction.MoveContext.{apart_drop, apart_add, apart_inserts}
 use Rattle.m3_refine.proofs.abstraction.FindActor.{apart-by_act}
+use Rattle.m3_refine.proofs.lists.Insertion.{StaysKnown}
 
 -- ---- a stay but for what its program sees
 
@@ -105,7 +105,7 @@ module _ (c d : Context) (xs ys : List Context) (s : Swaps c d xs ys) (same : d.
   pub swaps_apart : DistinctActs ys
   swaps_apart = subst DistinctActs (sym s.new) (apart_add s.front d s.back (subst (λ n. context_of n (s.front ++ s.back) ≡ None) (sym same) base_absent) base_apart)
 
-  pub swaps_known : (a : ℕ) → IsPresent (context_of a xs) → IsPresent (context_of a ys)
+  pub swaps_known : StaysKnown xs ys
   swaps_known a h = subst (λ l. IsPresent (context_of a l)) (sym s.new) (there-other a c d same s.front s.back (subst (λ l. IsPresent (context_of a l)) s.old h))
 
   pub swaps_each : (P : Context → Type 0) → Each P xs → P d → Each P ys

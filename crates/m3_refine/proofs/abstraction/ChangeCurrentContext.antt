@@ -2,7 +2,7 @@
 use Rattle.std.proofs.Common.{◌≡◌, ℕ, ◌<◌, Bool, true, false, cond, List, ◌∷◌, ◌++◌, Some, None, refl, sym, subst, ◌∙◌, ap, arith, append_assoc, set, get_or, length, map}
 use Rattle.std.specs.Prelude.{Option, ◌==◌}
 use Rattle.std.proofs.lemmas.Bool.Decides.{nat_tests}
-use Rattle.std.proofs.lemmas.List.{map-set, set-get_or}
+use Rattle.std.proofs.lemmas.List.{map-set, set-get_or, length-set}
 use Rattle.m3_base.specs.Ideal.Context.{Context}
 use Rattle.m3_base.specs.Ideal.State.{put_context}
 use Rattle.m3_merge.proofs.MergedIsRun.{each_map}
@@ -14,16 +14,16 @@ use Rattle.m3_model.specs.Config.KnownActivities.{is_named_context}
 use Rattle.m3_model.specs.Tile.Step.{act_in, resident_of}
 use Rattle.m3_model.specs.Kernel.Step.{entry_of}
 use Rattle.m3_model.specs.Machine.{Machine, Tile_part, empty_tile, tile_at, link_at, with_part}
-use Rattle.m3_model.specs.Abstraction.{flat_map, flat_links, option_list, tile_contexts, entry_contexts, contexts_in, all_contexts, all_closed, sorted_by_name, all_packets, closed_from, ideal_of, actor_in, current_act, placement_of}
+use Rattle.m3_model.specs.Abstraction.{flat_map, flat_links, option_list, tile_contexts, entry_contexts, contexts_in, all_contexts, all_closed, all_packets, closed_from, ideal_of, actor_in, current_act, placement_of}
 use Rattle.m3_model.specs.Invariant.LinkWalk.{CurrentAlongLink, placed_on}
 use Rattle.m3_model.specs.Invariant.Housing.{HasHome, resident_at}
 use Rattle.m3_model.specs.Invariant.Parcels.{ParcelOk}
 use Rattle.m3_model.specs.Invariant.Scheduling.{EntryOk}
 use Rattle.m3_model.specs.Invariant.Structure.{MachineStructure}
 use Rattle.m3_refine.proofs.lists.Insertion.{around_set}
-use Rattle.m3_refine.proofs.abstraction.MoveWithinMachine.{length-set}
 use Rattle.m3_refine.proofs.lists.Update.{get_or-set}
 use Rattle.m3_refine.proofs.abstraction.ChangeContext.{Alike, alike-itself, actor-alike, ended-alike, there-alike, map-same, Swaps, swaps_state, swaps_apart, swaps_known, swaps_each}
+use Rattle.m3_base.specs.Ideal.Flights.{sorted_by_name}
 
 pub parcel-alike : (h : Site) (k : Kernel) (ts us : List Tile) → ((a : ℕ) → Alike (resident_at h ts a) (resident_at h us a)) → (from to : ℕ) (q : Parcel) → ParcelOk h k ts from to q → ParcelOk h k us from to q
 parcel-alike h k ts us e from to (Data p) o = o

@@ -2,14 +2,13 @@
 use Rattle.std.proofs.Common.{◌≡◌, ℕ, zero, suc, ◌+◌, ◌-◌, ◌<◌, Bool, true, false, List, [], ◌∷◌, ◌++◌, Some, None, refl, sym, subst, ◌∙◌, ap, arith, set}
 use Rattle.std.specs.Prelude.{◌==◌, ◌||◌, slice_get}
 use Rattle.std.proofs.lemmas.Bool.Decides.{nat_tests}
-use Rattle.m3_base.specs.Ideal.State.{Standing, Grant, grant_in}
+use Rattle.m3_base.specs.Ideal.State.{Grant, grant_in, is_open}
 use Rattle.m3_base.specs.Ideal.State as ideal
 use Rattle.m3_base.specs.Ideal.GrantRules.{change_grant, set_some}
 use Rattle.m3_model.specs.Abstraction.{is_in, closed_if, closed_from}
-use Rattle.m3_model.specs.Invariant.IdealFacts.{is_open}
 use Rattle.m3_refine.proofs.lists.Insertion.{Inserts}
 use Rattle.m3_refine.proofs.arrival.ArriveIsLandAll.{closes_grant}
-use Rattle.m3_base.proofs.GrantTableLookup.{grant_in-suc}
+use Rattle.m3_base.proofs.GrantsByNumber.{grant_in-suc}
 
 in_front : (g n : ℕ) (f b : List ℕ) → is_in (f ++ g ∷ b) n ≡ (g == n) || is_in (f ++ b) n
 in_front g n [] b = refl

@@ -32,6 +32,13 @@ pub record SeatOf (h : Site) (k : Kernel) (x : ActivityEntry) (y : Home) : Type 
   pub seat : entry_of y.act k ≡ Some x
   pub home : home_of y.act h ≡ Some y
 
+-- the kernel's entry of its activity
+abbrev pub IsEntryOf : Kernel → ActivityEntry → Type 0
+IsEntryOf k x = entry_of x.act k ≡ Some x
+
+pub seat_entry : (h : Site) (k : Kernel) (x : ActivityEntry) (y : Home) → SeatOf h k x y → IsEntryOf k x
+seat_entry h k x y s = ap (λ n. entry_of n k) s.act ∙ s.seat
+
 abbrev pub AreSeats : Site → Kernel → List ActivityEntry → List Home → Type 0
 AreSeats h k [] [] = Unit {0}
 AreSeats h k (x ∷ xs) (y ∷ ys) = SeatOf h k x y × AreSeats h k xs ys
@@ -234,3 +241,8 @@ placed_one h t a (z ∷ xs) x le e p = by_test (a == z.act) (is_placed_at h t z)
     by_test true false q k ih = absurd (let s : z ≡ x = cc in let w : is_placed_at h t z ≡ true = ap (is_placed_at h t) s ∙ p in cc)
     by_test false true q k ih = absurd (let r = some_placed xs k in let w : one (is_placed_at h t z) ≡ 1 = ap one q in omega arith)
     by_test false false q k ih = ih (let w : one (is_placed_at h t z) ≡ 0 = ap one q in omega arith) k p
+
+-- how much a test adds with one that holds, and with one that doesn't
+pub one-and : (q : Bool) → (one (q && true) ≡ one q) × (one (q && false) ≡ 0)
+one-and true = (refl, refl)
+one-and false = (refl, refl)

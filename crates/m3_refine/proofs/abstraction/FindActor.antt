@@ -2,17 +2,16 @@
 use Rattle.std.proofs.Common.{◌≡◌, ℕ, zero, suc, ◌+◌, ◌*◌, ◌<◌, Bool, true, false, cond, List, [], ◌∷◌, ◌++◌, Some, None, refl, sym, subst, ◌∙◌, ap, arith, set, get_or, length, map}
 use Rattle.std.specs.Prelude.{Option, ◌==◌, not, ◌&&◌, is_some}
 use Rattle.std.proofs.lemmas.Bool.Decides.{nat_tests}
-use Rattle.std.proofs.lemmas.List.{map-set, get_or-map}
+use Rattle.std.proofs.lemmas.List.{map-set, get_or-map, length-set}
 use Rattle.m3_base.specs.declared.event.Event.{Event}
 use Rattle.m3_base.specs.declared.event.Said.{Said}
 use Rattle.m3_base.specs.Lists.Keyed as keyed
 use Rattle.m3_base.specs.Ideal.Context.{Context}
-use Rattle.m3_base.specs.Ideal.State.{context_of, new_context_in, same_act}
+use Rattle.m3_base.specs.Ideal.State.{context_of, new_context_in, same_act, DistinctActs}
 use Rattle.m3_base.specs.Placement.Take as places_take
 use Rattle.m3_base.specs.Placement.State as places_state
 use Rattle.m3_base.specs.Placement.Landing as places_landing
 use Rattle.m3_base.specs.Placement.State.{Placement, PlacedActivity, LinkToken, actor_act}
-use Rattle.m3_base.specs.Placement.Landing.{PlacementResult}
 use Rattle.m3_base.specs.Placement.Step.{placement_step}
 use Rattle.m3_model.specs.Config.Site.{Home, Site, home_act, home_of}
 use Rattle.m3_model.specs.Parcel.{Parcel, Save, Saved}
@@ -22,9 +21,8 @@ use Rattle.m3_model.specs.Kernel.Step.{entry_of}
 use Rattle.m3_model.specs.Machine.{Machine, Tile_part, empty_tile, tile_at, link_at, with_link, with_part, with_parcels}
 use Rattle.m3_model.specs.Abstraction.{flat_map, flat_links, option_list, tile_contexts, entry_contexts, contexts_in, all_contexts, sorted_by_act, ideal_of, link_token, actor_in, actor_by, pending_in, current_act, placement_of}
 use Rattle.m3_model.specs.Tile.Step.{has_ended as ended_in}
-use Rattle.m3_model.specs.Invariant.Distinct.{DistinctActs}
 use Rattle.m3_refine.proofs.lists.Insertion.{Inserts, inserts_right, around_set, empties}
-use Rattle.m3_refine.proofs.abstraction.MoveWithinMachine.{moved, by_act-inserts, length-set}
+use Rattle.m3_refine.proofs.abstraction.MoveWithinMachine.{moved, by_act-inserts}
 use Rattle.m3_refine.proofs.abstraction.MoveContext.{apart_inserts, saves_at}
 
 -- ---- the context of the current activity, in the ideal state
@@ -36,6 +34,23 @@ apart-new a c (x ∷ cs) h k = grind (arith, nat_tests, apart-new a c cs h)
 pub apart-by_act : (a : ℕ) (xs : List Context) → context_of a xs ≡ None → context_of a (sorted_by_act xs) ≡ None
 apart-by_act a [] h = refl
 apart-by_act a (x ∷ xs) h = grind (arith, nat_tests, h, apart-by_act a xs, apart-new a x (sorted_by_act xs))
+
+present-new : (a : ℕ) (c : Context) (cs : List Context) → (a == c.act) ≡ true → is_some (context_of a (new_context_in c cs)) ≡ true
+present-new a c [] h = grind (arith, nat_tests, h)
+present-new a c (x ∷ cs) h = grind (arith, nat_tests, h, present-new a c cs h)
+
+stays-new : (a : ℕ) (c : Context) (cs : List Context) → is_some (context_of a cs) ≡ true → is_some (context_of a (new_context_in c cs)) ≡ true
+stays-new a c [] h = absurd (cc)
+stays-new a c (x ∷ cs) h = grind (arith, nat_tests, h, stays-new a c cs)
+
+-- an activity that has a context has one in the ideal state
+pub present-by_act : (a : ℕ) (xs : List Context) → is_some (context_of a xs) ≡ true → is_some (context_of a (sorted_by_act xs)) ≡ true
+present-by_act a [] h = absurd (cc)
+present-by_act a (x ∷ xs) h = by_test (a == x.act) refl h (present-by_act a xs)
+  where
+    by_test : (b : Bool) → (a == x.act) ≡ b → is_some (cond b (Some x) (context_of a xs)) ≡ true → (is_some (context_of a xs) ≡ true → is_some (context_of a (sorted_by_act xs)) ≡ true) → is_some (context_of a (new_context_in x (sorted_by_act xs))) ≡ true
+    by_test true d k ih = present-new a x (sorted_by_act xs) d
+    by_test false d k ih = stays-new a x (sorted_by_act xs) (ih k)
 
 find-new : (c : Context) (cs : List Context) → context_of c.act cs ≡ None → context_of c.act (new_context_in c cs) ≡ Some c
 find-new c [] h = grind (arith, nat_tests)
@@ -100,7 +115,7 @@ moved_tokens links i j rest q h =
 
 -- ---- what Saved tells
 
-same_unread : (c : Context) (p : Option ℕ) → places_take.has_unread_at (Some c) p ≡ unread_at c p
+pub same_unread : (c : Context) (p : Option ℕ) → places_take.has_unread_at (Some c) p ≡ unread_at c p
 same_unread c None = refl
 same_unread c (Some ep) = refl
 

@@ -5,10 +5,10 @@ use Rattle.std.specs.Prelude.{◌==◌}
 use Rattle.std.proofs.lemmas.Bool.Decides.{nat_tests}
 use Rattle.m3_base.specs.declared.ids.FlightId.{FlightId}
 use Rattle.m3_base.specs.declared.packet.Packet.{Packet}
-use Rattle.m3_base.specs.Ideal.Flights.{name_of, same_name, flight}
+use Rattle.m3_base.specs.Ideal.Flights.{name_of, same_name, flight, sorted_by_name}
 use Rattle.m3_base.specs.Ideal.Context.{Context}
 use Rattle.m3_base.specs.Lists.Keyed as keyed
-use Rattle.m3_base.specs.Ideal.State.{context_of, same_act}
+use Rattle.m3_base.specs.Ideal.State.{context_of, same_act, DistinctActs}
 use Rattle.m3_model.specs.Kernel.Step.{entry_act}
 use Rattle.m3_base.proofs.FlightNames.{same_name-turned}
 use Rattle.m3_model.specs.Parcel.{Parcel, Data, Save, Saved, Restore, Heard}
@@ -16,11 +16,11 @@ use Rattle.m3_model.specs.Tile.State.{Tile}
 use Rattle.m3_model.specs.Kernel.State.{ActivityEntry, Kernel, Is_leaving}
 use Rattle.m3_model.specs.Tile.Step.{with_current}
 use Rattle.m3_model.specs.Machine.{Machine, Tile_part, empty_tile, tile_at, link_at, with_link, with_part, with_parcels}
-use Rattle.m3_model.specs.Abstraction.{flat_map, flat_links, option_list, tile_contexts, entry_contexts, residency_contexts, held_by, contexts_in, packets_in, closed_in, all_contexts, all_packets, sorted_by_act, sorted_by_name, closed_from, ideal_of}
-use Rattle.m3_model.specs.Invariant.Distinct.{DistinctActs, DistinctNames}
+use Rattle.m3_model.specs.Abstraction.{flat_map, flat_links, option_list, tile_contexts, entry_contexts, residency_contexts, held_by, contexts_in, packets_in, closed_in, all_contexts, all_packets, sorted_by_act, closed_from, ideal_of}
 use Rattle.m3_refine.proofs.lists.Insertion.{Inserts, inserts_left, inserts_right, around_set, empties, fills, pop_none, pop_one, push_none, push_one}
 use Rattle.m3_refine.proofs.lists.Replacement.{around_replaced}
 use Rattle.m3_refine.proofs.abstraction.MoveWithinMachine.{moved, moved_none, moved_in, moved_on, context-moves, packet-moves}
+use Rattle.m3_base.specs.Ideal.FlightNames.{Distinct}
 
 -- ---- what stands elsewhere is apart
 
@@ -73,16 +73,16 @@ other_name : (n : FlightId) (f : List Packet) (p : Packet) (b : List Packet) →
 other_name n [] p b h = grind (arith, h)
 other_name n (x ∷ f) p b h = grind (arith, h, other_name n f p b)
 
-name_middle : (f : List Packet) (p : Packet) (b : List Packet) → DistinctNames (f ++ p ∷ b) → flight (name_of p) (f ++ b) ≡ None
+name_middle : (f : List Packet) (p : Packet) (b : List Packet) → Distinct (f ++ p ∷ b) → flight (name_of p) (f ++ b) ≡ None
 name_middle [] p b h = h.0
 name_middle (x ∷ f) p b h =
     let e = other_name (name_of x) f p b h.0 in
     let ih = name_middle f p b h.1 in
     grind (arith, e, ih, same_name-turned)
 
-pub name_inserts : (p : Packet) (xs ys : List Packet) → Inserts p xs ys → DistinctNames ys → flight (name_of p) xs ≡ None
+pub name_inserts : (p : Packet) (xs ys : List Packet) → Inserts p xs ys → Distinct ys → flight (name_of p) xs ≡ None
 name_inserts p xs ys h a =
-    subst (λ l. flight (name_of p) l ≡ None) (sym h.without) (name_middle h.front p h.back (subst DistinctNames h.whole a))
+    subst (λ l. flight (name_of p) l ≡ None) (sym h.without) (name_middle h.front p h.back (subst Distinct h.whole a))
 
 -- ---- a tile takes Save
 
@@ -124,7 +124,7 @@ module _ (m : Machine) (t from : ℕ) (ht : t < length m.tiles) (hi : 16 * from 
 
   -- a packet that bounces
   pub bounces_at : (p : Packet) (rest : List Parcel)
-      → link_at from t m ≡ Data p ∷ rest → DistinctNames (all_packets m)
+      → link_at from t m ≡ Data p ∷ rest → Distinct (all_packets m)
       → ideal_of (with_parcels t ((0, Data p) ∷ []) (left_by rest (tile_at t m))) ≡ ideal_of m
   bounces_at p rest g apart =
       let i = 16 * from + t in
@@ -176,6 +176,10 @@ module _ (m : Machine) (t from : ℕ) (ht : t < length m.tiles) (hi : 16 * from 
       }
 
 -- ---- the kernel takes Saved
+
+-- the ideal state of both machines is the same, and no activity has two contexts
+abbrev pub StaysIdeal : Machine → Machine → Type 0
+StaysIdeal m n = (ideal_of n ≡ ideal_of m) × DistinctActs (all_contexts n)
 
 module _ (m : Machine) (i : ℕ) (hi : i < length m.links) where
   -- the seats with this one in place of its activity's, on any further change of ready lists

@@ -1,17 +1,19 @@
 -- Contexts and packets that move leave the ideal state as it is.
-use Rattle.std.proofs.Common.{◌≡◌, ℕ, zero, suc, ◌<◌, false, List, [], ◌∷◌, ◌++◌, None, refl, sym, subst, ◌∙◌, ap, arith, set, get_or, length}
+use Rattle.std.proofs.Common.{◌≡◌, ℕ, ◌<◌, false, List, [], ◌∷◌, ◌++◌, None, refl, sym, subst, ◌∙◌, ap, arith, set, get_or, length, Some}
 use Rattle.std.specs.Prelude.{◌==◌}
 use Rattle.std.proofs.lemmas.Bool.Decides.{nat_tests}
 use Rattle.m3_base.specs.declared.ids.FlightId.{FlightId}
 use Rattle.m3_base.specs.declared.packet.Packet.{Packet}
-use Rattle.m3_base.specs.Ideal.Flights.{name_of, flight, new_flight}
+use Rattle.m3_base.specs.Ideal.Flights.{name_of, flight, new_flight, sorted_by_name}
 use Rattle.m3_base.specs.Ideal.Context.{Context}
 use Rattle.m3_base.specs.Ideal.State.{context_of, new_context_in}
 use Rattle.m3_base.proofs.FlightNames.{same_name-turned}
 use Rattle.m3_base.proofs.FlightOrder.{new-new}
 use Rattle.m3_model.specs.Parcel.{Parcel}
-use Rattle.m3_model.specs.Abstraction.{flat_links, sorted_by_act, sorted_by_name}
+use Rattle.m3_model.specs.Abstraction.{flat_links, sorted_by_act, all_packets, all_closed, ideal_of}
 use Rattle.m3_refine.proofs.lists.Insertion.{Inserts, pop_none, pop_one, push_none, push_one}
+use Rattle.std.proofs.lemmas.List.{length-set}
+use Rattle.m3_model.specs.Machine.{Machine}
 
 -- ---- contexts in the order of their activities
 
@@ -57,15 +59,22 @@ by_name-inserts p xs ys h a =
 pub packet-moves : (p : Packet) (base xs ys : List Packet) → Inserts p base xs → Inserts p base ys → flight (name_of p) base ≡ None → sorted_by_name xs ≡ sorted_by_name ys
 packet-moves p base xs ys h k a = by_name-inserts p base xs h a ∙ sym (by_name-inserts p base ys k a)
 
+-- ---- what two machines have in common
+
+abbrev pub SamePackets : Machine → Machine → Type 0
+SamePackets m n = all_packets n ≡ all_packets m
+
+-- the packet is a flight of the ideal state
+abbrev pub IsInFlight : Machine → Packet → Type 0
+IsInFlight m p = flight (name_of p) (ideal_of m).flights ≡ Some p
+
+abbrev pub SameClosed : Machine → Machine → Type 0
+SameClosed m n = all_closed n ≡ all_closed m
+
 -- ---- one parcel leaves a link, and another enters one
 
 abbrev pub moved : List (List Parcel) → ℕ → List Parcel → ℕ → Parcel → List (List Parcel)
 moved links i rest j q = set (set links i rest) j (get_or (set links i rest) j [] ++ q ∷ [])
-
-pub length-set : {X : Type 0} (xs : List X) (i : ℕ) (x : X) → length (set xs i x) ≡ length xs
-length-set [] i x = refl
-length-set (y ∷ ys) zero x = refl
-length-set (y ∷ ys) (suc i) x = ap (λ n. suc n) (length-set ys i x)
 
 module _ {Y : Type 0} (f : Parcel → List Y) (links : List (List Parcel)) (i j : ℕ) (q r : Parcel) (rest : List Parcel) (hi : i < length links) (hj : j < length links) (g : get_or links i [] ≡ q ∷ rest) where
   at_j : j < length (set links i rest)

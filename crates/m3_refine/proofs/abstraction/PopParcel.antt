@@ -1,43 +1,44 @@
 -- A link loses a packet from its front: the machine stays sound, and lacks just this flight.
-use Rattle.std.proofs.Common.{◌≡◌, ℕ, ◌+◌, ◌*◌, ◌<◌, ◌≤◌, true, List, [], ◌∷◌, ◌++◌, Some, None, refl, sym, subst, ◌∙◌, ap, arith, set, get_or, length, map}
-use Rattle.std.proofs.lemmas.List.{map-set}
+use Rattle.std.proofs.Common.{◌≡◌, ℕ, ◌+◌, ◌*◌, ◌<◌, ◌≤◌, true, List, [], ◌∷◌, ◌++◌, None, refl, sym, subst, ◌∙◌, ap, arith, set, get_or, length, map}
+use Rattle.std.proofs.lemmas.List.{map-set, length-set}
 use Rattle.m3_base.specs.declared.ids.FlightId.{FlightId}
 use Rattle.m3_base.specs.declared.packet.Packet.{Packet}
 use Rattle.m3_base.specs.Lists.Counting.{how_many}
-use Rattle.m3_base.specs.Ideal.Flights.{name_of, flight, new_flight}
-use Rattle.m3_base.specs.Ideal.State.{context_of}
+use Rattle.m3_base.specs.Ideal.Flights.{name_of, flight, new_flight, sorted_by_name}
+use Rattle.m3_base.specs.Ideal.State.{context_of, DistinctActs}
 use Rattle.m3_base.specs.Placement.State as places_state
-use Rattle.m3_base.specs.Placement.State.{Placement}
 use Rattle.m3_base.specs.Lists.EachElement.{Each}
 use Rattle.m3_model.specs.Config.Site.{Site}
 use Rattle.m3_model.specs.Parcel.{Parcel, Data}
 use Rattle.m3_model.specs.Config.KnownActivities.{is_named_context}
 use Rattle.m3_model.specs.Machine.{Machine, tile_at, link_at, with_link}
-use Rattle.m3_model.specs.Abstraction.{flat_map, flat_links, tile_contexts, entry_contexts, held_by, contexts_in, packets_in, closed_in, all_contexts, all_packets, all_closed, sorted_by_act, sorted_by_name, closed_from, is_in, ideal_of, link_token, current_act, actor_in, placement_of}
-use Rattle.m3_model.specs.Invariant.Distinct.{DistinctActs, DistinctNames, DistinctClosed}
+use Rattle.m3_model.specs.Abstraction.{flat_map, flat_links, tile_contexts, entry_contexts, held_by, contexts_in, packets_in, closed_in, all_contexts, all_packets, all_closed, sorted_by_act, closed_from, is_in, ideal_of, link_token, current_act, actor_in, placement_of}
+use Rattle.m3_model.specs.Invariant.Distinct.{DistinctClosed}
 use Rattle.m3_model.specs.Invariant.LinkWalk.{CurrentAlongLink, placed_on}
 use Rattle.m3_model.specs.Invariant.Housing.{IsPresent}
 use Rattle.m3_model.specs.Invariant.Parcels.{ParcelOk, YieldsBeforeSaved}
 use Rattle.m3_model.specs.Invariant.Scheduling.{is_save_of, saves_in_flight}
 use Rattle.m3_model.specs.Invariant.Structure.{MachineStructure}
 use Rattle.m3_refine.proofs.lists.Insertion.{Inserts, inserts_left, pop_none, pop_one}
-use Rattle.m3_refine.proofs.abstraction.MoveWithinMachine.{by_name-inserts, length-set}
+use Rattle.m3_refine.proofs.abstraction.MoveWithinMachine.{by_name-inserts, IsInFlight}
 use Rattle.m3_refine.proofs.abstraction.MoveContext.{name_inserts}
 use Rattle.m3_refine.proofs.abstraction.FindActor.{tokens}
 use Rattle.m3_refine.proofs.events.take.BounceStep.{packet_at, name-by_name}
-use Rattle.m3_refine.proofs.lists.Update.{total-set, links_set, is_link}
+use Rattle.m3_refine.proofs.lists.Update.{links_set, is_link}
 use Rattle.m3_refine.proofs.abstraction.CurrentAlongLink.{front_data}
+use Rattle.m3_base.specs.Ideal.FlightNames.{Distinct}
+use Rattle.m3_base.proofs.Counting.{total-set}
 
 absent_less : (n : FlightId) (f : List Packet) (p : Packet) (b : List Packet) → flight n (f ++ p ∷ b) ≡ None → flight n (f ++ b) ≡ None
 absent_less n [] p b h = grind (arith, h)
 absent_less n (x ∷ f) p b h = grind (arith, h, absent_less n f p b)
 
-names_less : (f : List Packet) (p : Packet) (b : List Packet) → DistinctNames (f ++ p ∷ b) → DistinctNames (f ++ b)
+names_less : (f : List Packet) (p : Packet) (b : List Packet) → Distinct (f ++ p ∷ b) → Distinct (f ++ b)
 names_less [] p b h = h.1
 names_less (x ∷ f) p b h = (absent_less (name_of x) f p b h.0, names_less f p b h.1)
 
-pub names_drop : (p : Packet) (xs ys : List Packet) → Inserts p xs ys → DistinctNames ys → DistinctNames xs
-names_drop p xs ys h a = subst DistinctNames (sym h.without) (names_less h.front p h.back (subst DistinctNames h.whole a))
+pub names_drop : (p : Packet) (xs ys : List Packet) → Inserts p xs ys → Distinct ys → Distinct xs
+names_drop p xs ys h a = subst Distinct (sym h.without) (names_less h.front p h.back (subst Distinct h.whole a))
 
 module _ (h : Site) (m : Machine) (from to : ℕ) (hf : from < 16) (ht : to < 16) (sound : MachineStructure h m) (p : Packet) (rest : List Parcel) (g : link_at from to m ≡ Data p ∷ rest) where
   abbrev i : ℕ
@@ -70,7 +71,7 @@ module _ (h : Site) (m : Machine) (from to : ℕ) (hf : from < 16) (ht : to < 16
   pub popped_flights : (ideal_of m).flights ≡ new_flight p (ideal_of popped).flights
   popped_flights = by_name-inserts p (all_packets popped) (all_packets m) popped_packet popped_absent
 
-  pub popped_flies : flight (name_of p) (ideal_of m).flights ≡ Some p
+  pub popped_flies : IsInFlight m p
   popped_flies = packet_at p (all_packets popped) (all_packets m) popped_packet popped_absent
 
   pub popped_state : ideal_of popped ≡ record (ideal_of m) { flights = (ideal_of popped).flights }

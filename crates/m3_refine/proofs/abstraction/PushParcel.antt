@@ -5,10 +5,9 @@ use Rattle.std.proofs.lemmas.Bool.Decides.{nat_tests}
 use Rattle.m3_base.specs.declared.ids.FlightId.{FlightId}
 use Rattle.m3_base.specs.declared.packet.Packet.{Packet}
 use Rattle.m3_base.specs.Lists.Counting.{one, how_many}
-use Rattle.m3_base.specs.Ideal.Flights.{name_of, same_name, flight, new_flight}
-use Rattle.m3_base.specs.Ideal.State.{context_of, grant_in}
+use Rattle.m3_base.specs.Ideal.Flights.{name_of, same_name, flight, new_flight, sorted_by_name}
+use Rattle.m3_base.specs.Ideal.State.{context_of, grant_in, DistinctActs}
 use Rattle.m3_base.specs.Placement.State as places_state
-use Rattle.m3_base.specs.Placement.State.{Placement}
 use Rattle.m3_base.proofs.FlightNames.{same_name-turned}
 use Rattle.m3_base.specs.Lists.EachElement.{Each}
 use Rattle.m3_merge.proofs.MergedIsRun.{each_append}
@@ -16,17 +15,20 @@ use Rattle.m3_model.specs.Config.Site.{Site}
 use Rattle.m3_model.specs.Parcel.{Parcel, Data, Save, Saved, Restore, Yield, Closed}
 use Rattle.m3_model.specs.Config.KnownActivities.{is_named_context}
 use Rattle.m3_model.specs.Machine.{Machine, tile_at, link_at, with_parcel}
-use Rattle.m3_model.specs.Abstraction.{flat_map, flat_links, tile_contexts, entry_contexts, held_by, contexts_in, packets_in, closed_in, all_contexts, all_packets, all_closed, sorted_by_act, sorted_by_name, closed_from, is_in, ideal_of, link_token, current_act, actor_in, placement_of}
-use Rattle.m3_model.specs.Invariant.Distinct.{DistinctActs, DistinctNames, DistinctClosed}
+use Rattle.m3_model.specs.Abstraction.{flat_map, flat_links, tile_contexts, entry_contexts, held_by, contexts_in, packets_in, closed_in, all_contexts, all_packets, all_closed, sorted_by_act, closed_from, is_in, ideal_of, link_token, current_act, actor_in, placement_of}
+use Rattle.m3_model.specs.Invariant.Distinct.{DistinctClosed}
 use Rattle.m3_model.specs.Invariant.Structure.{CloseWasSent, MachineStructure}
 use Rattle.m3_model.specs.Invariant.LinkWalk.{CurrentAlongLink, placed_on}
 use Rattle.m3_model.specs.Invariant.Housing.{IsPresent}
 use Rattle.m3_model.specs.Invariant.Parcels.{ParcelOk, YieldsBeforeSaved, no_yield}
 use Rattle.m3_model.specs.Invariant.Scheduling.{is_save_of, saves_in_flight}
 use Rattle.m3_refine.proofs.lists.Insertion.{Inserts, inserts_left, push_none, push_one}
-use Rattle.m3_refine.proofs.abstraction.MoveWithinMachine.{by_name-inserts, length-set}
+use Rattle.m3_refine.proofs.abstraction.MoveWithinMachine.{by_name-inserts}
 use Rattle.m3_refine.proofs.abstraction.FindActor.{pushed_tokens}
-use Rattle.m3_refine.proofs.lists.Update.{total-set, how_many-append, links_set, is_link}
+use Rattle.m3_refine.proofs.lists.Update.{links_set, is_link}
+use Rattle.m3_base.specs.Ideal.FlightNames.{Distinct}
+use Rattle.std.proofs.lemmas.List.{length-set}
+use Rattle.m3_base.proofs.Counting.{total-set, how_many-append}
 
 absent_more : (n : FlightId) (f : List Packet) (p : Packet) (b : List Packet) → same_name n (name_of p) ≡ false → flight n (f ++ b) ≡ None → flight n (f ++ p ∷ b) ≡ None
 absent_more n [] p b d h = grind (arith, h, d)
@@ -38,13 +40,13 @@ absent_rest n x xs h = grind (arith, h)
 absent_other : (n : FlightId) (x : Packet) (xs : List Packet) → flight n (x ∷ xs) ≡ None → same_name (name_of x) n ≡ false
 absent_other n x xs h = grind (arith, h, same_name-turned)
 
-names_more : (f : List Packet) (p : Packet) (b : List Packet) → flight (name_of p) (f ++ b) ≡ None → DistinctNames (f ++ b) → DistinctNames (f ++ p ∷ b)
+names_more : (f : List Packet) (p : Packet) (b : List Packet) → flight (name_of p) (f ++ b) ≡ None → Distinct (f ++ b) → Distinct (f ++ p ∷ b)
 names_more [] p b h a = (h, a)
 names_more (x ∷ f) p b h a = (absent_more (name_of x) f p b (absent_other (name_of p) x (f ++ b) h) a.0, names_more f p b (absent_rest (name_of p) x (f ++ b) h) a.1)
 
-pub names_add : (p : Packet) (xs ys : List Packet) → Inserts p xs ys → flight (name_of p) xs ≡ None → DistinctNames xs → DistinctNames ys
+pub names_add : (p : Packet) (xs ys : List Packet) → Inserts p xs ys → flight (name_of p) xs ≡ None → Distinct xs → Distinct ys
 names_add p xs ys h e a =
-    subst DistinctNames (sym h.whole) (names_more h.front p h.back (subst (λ l. flight (name_of p) l ≡ None) h.without e) (subst DistinctNames h.without a))
+    subst Distinct (sym h.whole) (names_more h.front p h.back (subst (λ l. flight (name_of p) l ≡ None) h.without e) (subst Distinct h.without a))
 
 in_more : (g n : ℕ) (f b : List ℕ) → (g == n) ≡ false → is_in (f ++ b) n ≡ false → is_in (f ++ g ∷ b) n ≡ false
 in_more g n [] b d h = grind (arith, nat_tests, h, d)
@@ -112,8 +114,12 @@ module _ (h : Site) (m : Machine) (t u : ℕ) (ht : t < 16) (hu : u < 16) (q : P
       links_set m.links t u back ht hu sound.links (λ x y qs. x ≡ 0 → CurrentAlongLink (current_act (tile_at y m)) qs (placed_on h y m.kernel)) 0 w high (λ z. sound.seated.walks w low high)
       (λ e d z. absurd (omega arith)) refl
 
+  -- what is no Yield doesn't stand behind a Saved of its activity
+  pub in_order : MachineStructure h m → ((a : ℕ) → no_yield a (q ∷ []) ≡ true) → YieldsBeforeSaved (q ∷ []) → u ≡ 0 → YieldsBeforeSaved back
+  in_order sound quiet alone e = orderly_push q quiet alone (link_at t u m) (subst (λ y. YieldsBeforeSaved (link_at t y m)) (sym e) (sound.seated.orderly t ht))
+
   module _ (sound : MachineStructure h m) (ok : ParcelOk h m.kernel m.tiles t u q) (none : contexts_in q ≡ []) (plain : (a : ℕ) → is_save_of a q ≡ false)
-      (quiet : (a : ℕ) → no_yield a (q ∷ []) ≡ true) (alone : YieldsBeforeSaved (q ∷ []))
+      (ordered : u ≡ 0 → YieldsBeforeSaved back)
       (walk : (w : ℕ) → 2 ≤ w → w < 16 → CurrentAlongLink (current_act (tile_at w m)) (link_at 0 w longer) (placed_on h w m.kernel)) where
     in_links : j < length m.links
     in_links = is_link m.links t u back ht hu sound.links
@@ -137,9 +143,9 @@ module _ (h : Site) (m : Machine) (t u : ℕ) (ht : t < 16) (hu : u < 16) (q : P
     orderly_more : (w : ℕ) → w < 16 → YieldsBeforeSaved (link_at w 0 longer)
     orderly_more w high =
         links_set m.links t u back ht hu sound.links (λ x y qs. y ≡ 0 → YieldsBeforeSaved qs) w 0 (omega arith) (λ z. sound.seated.orderly w high)
-        (λ e d z. orderly_push q quiet alone (get_or m.links j []) (subst (λ y. YieldsBeforeSaved (link_at t y m)) (sym d) (sound.seated.orderly t ht))) refl
+        (λ e d z. ordered d) refl
 
-    pub longer_sound : DistinctNames (all_packets longer) → DistinctClosed (all_closed longer) → ((g : ℕ) → is_in (all_closed longer) g ≡ true → CloseWasSent (grant_in m.kernel.grants g)) → MachineStructure h longer
+    pub longer_sound : Distinct (all_packets longer) → DistinctClosed (all_closed longer) → ((g : ℕ) → is_in (all_closed longer) g ≡ true → CloseWasSent (grant_in m.kernel.grants g)) → MachineStructure h longer
     longer_sound names closed shut =
         record {
           setup = sound.setup;
@@ -195,7 +201,7 @@ module _ (h : Site) (m : Machine) (t u : ℕ) (ht : t < 16) (hu : u < 16) (sound
 
   pub sending_sound : ParcelOk h m.kernel m.tiles t u (Data p) → ((w : ℕ) → 2 ≤ w → w < 16 → CurrentAlongLink (current_act (tile_at w m)) (link_at 0 w sending) (placed_on h w m.kernel)) → MachineStructure h sending
   sending_sound ok walk =
-      longer_sound h m t u ht hu (Data p) sound ok refl (λ a. refl) (λ a. refl) tt walk
+      longer_sound h m t u ht hu (Data p) sound ok refl (λ a. refl) (in_order h m t u ht hu (Data p) sound (λ a. refl) tt) walk
       (names_add p (all_packets m) (all_packets sending) sending_packet absent sound.names)
       (subst DistinctClosed (sym data_closed) sound.closed)
       (λ g e. sound.shut g (subst (λ l. is_in l g ≡ true) data_closed e))
@@ -240,8 +246,8 @@ module _ (h : Site) (m : Machine) (t : ℕ) (ht : t < 16) (sound : MachineStruct
 
   pub telling_sound : CloseWasSent (grant_in m.kernel.grants g) → ((w : ℕ) → 2 ≤ w → w < 16 → CurrentAlongLink (current_act (tile_at w m)) (link_at 0 w telling) (placed_on h w m.kernel)) → MachineStructure h telling
   telling_sound isShut walk =
-      longer_sound h m t 0 ht (omega arith) (Closed g) sound refl refl (λ a. refl) (λ a. refl) tt walk
-      (subst DistinctNames (sym closed_packets) sound.names)
+      longer_sound h m t 0 ht (omega arith) (Closed g) sound refl refl (λ a. refl) (in_order h m t 0 ht (omega arith) (Closed g) sound (λ a. refl) tt) walk
+      (subst Distinct (sym closed_packets) sound.names)
       (closed_add g (all_closed m) (all_closed telling) telling_closed absent sound.closed)
       (λ n e. by_place n (in_some g n telling_closed.front telling_closed.back (subst (λ l. is_in l n ≡ true) telling_closed.whole e)))
     where

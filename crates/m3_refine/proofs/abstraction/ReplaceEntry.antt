@@ -19,12 +19,7 @@ use Rattle.m3_model.specs.Invariant.LinkWalk.{act_of_entry}
 use Rattle.m3_model.specs.Invariant.Scheduling.{is_placed_at}
 use Rattle.m3_model.specs.Invariant.Parcels.{is_here_entry, ParcelOk}
 use Rattle.m3_refine.proofs.abstraction.EntriesMatchActors.{actors_replaced}
-
-joins : (a b c : ℕ) → same_act a c ≡ true → same_act b c ≡ true → same_act a b ≡ true
-joins a b c p q = grind (arith, nat_tests)
-
-itself : (a : ℕ) → same_act a a ≡ true
-itself a = grind (arith, nat_tests)
+use Rattle.m3_base.proofs.Activities.{same_act-joins, same_act-itself}
 
 pub seat_key : (a : ℕ) (xs : List ActivityEntry) (x : ActivityEntry) → keyed.find entry_act same_act a xs ≡ Some x → x.act ≡ a
 seat_key a [] x e = absurd (cc)
@@ -33,6 +28,10 @@ seat_key a (z ∷ xs) x e = key_by a z x (keyed.find entry_act same_act a xs) (a
     key_by : (a : ℕ) (z y : ActivityEntry) (o : Option ActivityEntry) (b : Bool) → (a == z.act) ≡ b → (o ≡ Some y → y.act ≡ a) → cond b (Some z) o ≡ Some y → y.act ≡ a
     key_by a z y o true d ih e = let k : z ≡ y = cc in ap (λ w. w.act) (sym k) ∙ (let n : z.act ≡ a = grind (arith, nat_tests, d) in n)
     key_by a z y o false d ih e = ih e
+
+-- an activity that is somewhere on its tile by the one kernel is by the other
+abbrev pub StaysHere : Kernel → Kernel → Type 0
+StaysHere k l = (a : ℕ) → is_here_entry (entry_of a k) ≡ true → is_here_entry (entry_of a l) ≡ true
 
 module _ (xs : List ActivityEntry) (x y : ActivityEntry) (there : keyed.find entry_act same_act x.act xs ≡ Some x) (same : y.act ≡ x.act) where
   there' : keyed.find entry_act same_act y.act xs ≡ Some x
@@ -48,13 +47,13 @@ module _ (xs : List ActivityEntry) (x y : ActivityEntry) (there : keyed.find ent
       by_test : (b : Bool) → (a == x.act) ≡ b → P a (keyed.find entry_act same_act a reseated)
       by_test false d =
           let k : same_act a y.act ≡ false = (ap (λ n. a == n) same ∙ d) in
-          subst (P a) (sym (find-replaced_other entry_act same_act same_act a y xs joins k)) (have d)
+          subst (P a) (sym (find-replaced_other entry_act same_act same_act a y xs same_act-joins k)) (have d)
       by_test true d =
           let k : a ≡ x.act = grind (arith, nat_tests, d) in
-          subst (P a) (sym (ap (λ n. keyed.find entry_act same_act n reseated) (k ∙ sym same) ∙ find-replaced_same entry_act same_act same_act y x xs (itself y.act) there')) (now k)
+          subst (P a) (sym (ap (λ n. keyed.find entry_act same_act n reseated) (k ∙ sym same) ∙ find-replaced_same entry_act same_act same_act y x xs (same_act-itself y.act) there')) (now k)
 
   pub seat_now : keyed.find entry_act same_act x.act reseated ≡ Some y
-  seat_now = ap (λ n. keyed.find entry_act same_act n reseated) (sym same) ∙ find-replaced_same entry_act same_act same_act y x xs (itself y.act) there'
+  seat_now = ap (λ n. keyed.find entry_act same_act n reseated) (sym same) ∙ find-replaced_same entry_act same_act same_act y x xs (same_act-itself y.act) there'
 
   pub seat_counts : (p : ActivityEntry → Bool) → how_many p reseated + one (p x) ≡ how_many p xs + one (p y)
   seat_counts p = how_many-replaced entry_act same_act same_act p y x xs there'
@@ -82,7 +81,7 @@ placed_still h t (z ∷ xs) x y f s e = by_test (y.act == z.act) f (placed_still
     by_test false k ih = after (is_placed_at h t z) (placed_at h t (keyed.with_replaced entry_act same_act y xs)) (placed_at h t xs) (ih k s e)
 
 -- parcels under another kernel
-pub parcel_kernel : (h : Site) (k l : Kernel) (ts : List Tile) → ((a : ℕ) → is_here_entry (entry_of a k) ≡ true → is_here_entry (entry_of a l) ≡ true) → (from to : ℕ) (q : Parcel) → ParcelOk h k ts from to q → ParcelOk h l ts from to q
+pub parcel_kernel : (h : Site) (k l : Kernel) (ts : List Tile) → StaysHere k l → (from to : ℕ) (q : Parcel) → ParcelOk h k ts from to q → ParcelOk h l ts from to q
 parcel_kernel h k l ts e from to (Data p) o = o
 parcel_kernel h k l ts e from to (Save a) o = o
 parcel_kernel h k l ts e from to (Saved a c w d) o = o

@@ -5,7 +5,7 @@ use Rattle.m3_base.specs.declared.ids.FlightId.{FlightId}
 use Rattle.m3_base.specs.declared.packet.Packet.{Packet}
 use Rattle.m3_base.specs.Lists.Keyed as keyed
 use Rattle.m3_base.specs.Ideal.Flights.{name_of, flight}
-use Rattle.m3_base.specs.Ideal.State.{Grant, grant_in, same_act}
+use Rattle.m3_base.specs.Ideal.State.{Grant, grant_in, same_act, is_open}
 use Rattle.m3_base.specs.Ideal.Step.{with_packet}
 use Rattle.m3_base.specs.Placement.State as places_state
 use Rattle.m3_base.specs.Placement.State.{Placement, PlacedActivity, home_in, actor_act}
@@ -21,7 +21,6 @@ use Rattle.m3_model.specs.Abstraction.{all_packets, all_closed, ideal_of, actor_
 use Rattle.m3_model.specs.Invariant.Housing.{IsSetup}
 use Rattle.m3_model.specs.Invariant.Parcels.{HasDestination}
 use Rattle.m3_model.specs.Invariant.Structure.{CloseWasSent, MachineStructure}
-use Rattle.m3_model.specs.Invariant.IdealFacts.{is_open}
 use Rattle.m3_refine.proofs.abstraction.PushParcel.{longer_places, walks_elsewhere, sending_state, sending_sound, telling_state, telling_sound, telling_closed}
 use Rattle.m3_refine.proofs.arrival.ArriveIsLandAll.{grants_after, name_in}
 use Rattle.m3_refine.proofs.arrival.ArriveKeeps.{AnswerOk}
@@ -33,6 +32,15 @@ use Rattle.m3_refine.proofs.abstraction.ClosedGrants.{closes_one, open_grant}
 is_there_home : (o : Option Home) → is_some o ≡ true → (y : Home) × (o ≡ Some y)
 is_there_home None e = absurd (cc)
 is_there_home (Some y) e = (y, refl)
+
+-- a packet goes to one of 16 tiles, as each activity's home is one of them
+pub tile_for-low : (h : Site) → ((a : ℕ) → tile_of h a < 16) → (o : Option ℕ) → tile_for h o < 16
+tile_for-low h low None = omega arith
+tile_for-low h low (Some a) = low a
+
+-- an open grant whose Close was sent is under its Close
+pub under_close : (x : Grant) → is_open x.standing ≡ true → x.close_sent ≡ true → is_under_close x ≡ true
+under_close x o e = grind (arith, o, e)
 
 -- an activity of the setup lives at a tile from 2 on
 pub home_tile : (h : Site) (a : ℕ) → IsSetup h → is_home h a ≡ true → (2 ≤ tile_of h a) × (tile_of h a < 16)
@@ -101,9 +109,6 @@ module _ (h : Site) (t : ℕ) (low : 1 ≤ t) (ht : t < 16) where
         state = sending_state h m t u ht hu sound q gone;
         places = longer_places h m t u ht hu (Data q) sound.links ∙ ap (λ n. places_state.with_token t n (places_state.Data (name_of q)) (placement_of h m)) to;
       }
-
-  pub under_close : (x : Grant) → is_open x.standing ≡ true → x.close_sent ≡ true → is_under_close x ≡ true
-  under_close x o e = grind (arith, o, e)
 
   pub emit_closed : (m : Machine) → MachineStructure h m → (o : Option ℕ) → ShutsIf (ideal_of m).grants o
       → Emits h m (with_parcels t (closed_out o) m) (ideal_of m).flights (grants_after o (ideal_of m).grants) (push_closed t o (placement_of h m))

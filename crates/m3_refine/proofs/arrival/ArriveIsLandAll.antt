@@ -13,7 +13,7 @@ use Rattle.m3_base.specs.declared.step.Step.{Step}
 use Rattle.m3_base.specs.Ideal.Flights.{name_of, flight, new_flight, change_flight, end_flight}
 use Rattle.m3_base.specs.Ideal.Context.{Kind, Flying, Endpoint, Free, Sends, Receives, Reaches, Context, endpoint, with_endpoint, new_endpoint}
 use Rattle.m3_base.specs.Ideal.Landing.{land, land_by, land_refusal, message_id, has_send, with_credit, grant_of, is_closing, has_live, has_closing, closed_at, flies_at, flying_at, endpoint_after_answer, context_after_answer, freed_grant}
-use Rattle.m3_base.specs.Ideal.State.{Grant, State, context_of, put_context, grant_in, holder, holder_ep, is_number}
+use Rattle.m3_base.specs.Ideal.State.{Grant, State, context_of, put_context, holder_ep, is_number}
 use Rattle.m3_base.specs.Ideal.State as ideal
 use Rattle.m3_base.specs.Ideal.GrantRules.{change_grant}
 use Rattle.m3_base.specs.Ideal.Step.{Label, Starts_closing, Closes_endpoint, Answers, Frees, ideal_run, ideal_step, on_from, with_label, with_packet, land_in, close_in, closed_in, free_in, answered_in, answer_in, settle_in, step_to, number_of}
@@ -22,8 +22,8 @@ use Rattle.m3_base.specs.Placement.Routing.{target}
 use Rattle.m3_base.specs.Placement.Landing.{LandingResult, landing_result, closing_steps, landing_step, name_if_some, said_or_nothing}
 use Rattle.m3_base.specs.Ideal.Arrival.{Arrival, arrive, landed_said, close_arrives, answer_arrives, arrival_of_answer}
 use Rattle.m3_base.proofs.FlightOrder.{change-new, end-new, find-new}
-use Rattle.m3_model.specs.Invariant.IdealFacts.{HeldThere}
 use Rattle.m3_refine.proofs.arrival.ArriveIsLand.{came_one, came_two, with_both, message_comes, credit_comes, install_comes, answer_comes}
+use Rattle.m3_base.specs.Ideal.GrantHolder.{HeldThere}
 
 -- ---- the state after an arrival
 

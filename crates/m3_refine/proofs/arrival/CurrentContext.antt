@@ -26,6 +26,7 @@ use Rattle.m3_refine.proofs.lists.Insertion.{Inserts, around_set}
 use Rattle.m3_refine.proofs.abstraction.MoveContext.{apart_inserts}
 use Rattle.m3_refine.proofs.abstraction.FindActor.{context_at}
 use Rattle.m3_refine.proofs.abstraction.ChangeContext.{Alike, alike-itself, SameStay}
+use Rattle.m3_base.proofs.Activities.{same_act-joins, same_act-itself}
 
 -- ---- who is current
 
@@ -70,23 +71,17 @@ pub stay_key : (a : ℕ) (ys : List Resident) (y : Resident) → keyed.find resi
 stay_key a [] y e = absurd (cc)
 stay_key a (z ∷ ys) y e = key_by a z y (keyed.find resident_act same_act a ys) (a == z.act) refl (stay_key a ys y) e
 
-joins : (a b c : ℕ) → same_act a c ≡ true → same_act b c ≡ true → same_act a b ≡ true
-joins a b c p q = grind (arith, nat_tests)
-
-itself : (a : ℕ) → same_act a a ≡ true
-itself a = grind (arith, nat_tests)
-
 -- a stay in place of one like it
 pub stay_alike : (t : Tile) (y z : Resident) → resident_of y.act t ≡ Some y → z.act ≡ y.act → SameStay y z → (a : ℕ) → Alike (resident_of a t) (resident_of a (with_resident z t))
 stay_alike t y z found same like a = by_test (a == z.act) refl
   where
     by_test : (b : Bool) → (a == z.act) ≡ b → Alike (resident_of a t) (resident_of a (with_resident z t))
     by_test false e =
-        subst (Alike (resident_of a t)) (sym (find-replaced_other resident_act same_act same_act a z t.stays joins e)) (alike-itself (resident_of a t))
+        subst (Alike (resident_of a t)) (sym (find-replaced_other resident_act same_act same_act a z t.stays same_act-joins e)) (alike-itself (resident_of a t))
     by_test true e =
         let k : a ≡ z.act = grind (arith, nat_tests, e) in
         let old : resident_of z.act t ≡ Some y = ap (λ n. resident_of n t) same ∙ found in
-        let new : resident_of z.act (with_resident z t) ≡ Some z = find-replaced_same resident_act same_act same_act z y t.stays (itself z.act) old in
+        let new : resident_of z.act (with_resident z t) ≡ Some z = find-replaced_same resident_act same_act same_act z y t.stays (same_act-itself z.act) old in
         let both : Alike (resident_of z.act t) (resident_of z.act (with_resident z t)) = subst (λ o. Alike o (resident_of z.act (with_resident z t))) (sym old) (subst (Alike (Some y)) (sym new) like) in
         subst (λ n. Alike (resident_of n t) (resident_of n (with_resident z t))) (sym k) both
 

@@ -1,5 +1,5 @@
 -- Each step of the kernel keeps next numbers and next tokens low.
-use Rattle.std.proofs.Common.{ℕ, Bool, true, false, List, [], ◌∷◌, ◌++◌, Option, Some, None}
+use Rattle.std.proofs.Common.{ℕ, ◌+◌, length, Bool, true, false, List, [], ◌∷◌, ◌++◌, Option, Some, None}
 use Rattle.std.specs.Prelude.{if◌then◌else◌, ◌==◌, ◌&&◌, ◌||◌, not}
 use Rattle.std.specs.List.{list_any}
 use Rattle.m3_base.specs.Lists.EachElement.{Each}
@@ -7,8 +7,13 @@ use Rattle.m3_merge.proofs.MergedIsRun.{each_append}
 use Rattle.m3_base.specs.declared.packet.Packet.{Packet}
 use Rattle.m3_base.specs.declared.event.Said.{Said}
 use Rattle.m3_base.specs.declared.event.No.{No}
+use Rattle.m3_base.specs.declared.order.GrantLine.{GrantLine}
+use Rattle.m3_base.specs.declared.order.Order.{Order}
+use Rattle.m3_base.specs.declared.packet.Fresh.{Fresh}
 use Rattle.m3_base.specs.Ideal.Context.{Context}
-use Rattle.m3_base.specs.Ideal.State.{Grant, grant_in, same_act}
+use Rattle.m3_base.specs.Ideal.State.{Grant, grant_in, same_act, holder, holder_ep, parent_in, parent_of, undone}
+use Rattle.m3_base.specs.Ideal.GrantRules.{form, make_refusal, new_grant, revoke_refusal, change_grant}
+use Rattle.m3_base.specs.Placement.Order.{least_closing}
 use Rattle.m3_base.specs.Placement.Routing.{target}
 use Rattle.m3_base.specs.Ideal.Arrival.{Arrival, arrive}
 use Rattle.m3_base.specs.Ideal.Acceptance.{fits, arrive_fit}
@@ -17,7 +22,7 @@ use Rattle.m3_model.specs.Config.Site.{Site, tile_of, has_program}
 use Rattle.m3_model.specs.Parcel.{Parcel, Data, Save, Saved, Restore, Yield, Closed}
 use Rattle.m3_model.specs.Kernel.State.{SavedActivity, EntryResidency, Is_placed, Is_leaving, Is_resting, Is_coming, ActivityEntry, Kernel}
 use Rattle.m3_model.specs.LocalStep.{local_result, dropped_result, closed_out}
-use Rattle.m3_model.specs.Kernel.Step.{entry_act, entry_of, with_entry, with_residency, is_placed_entry, is_leaving_entry, join_ready, with_yielded, Routed, with_held, route_to, entry_for, route, first_due, is_due_entry, is_leaving_at, with_restore_of, with_restore, then_restore, take_routed, residency_of_saved, take_saved, done_grant, is_under_close, take_closed, take_yield, take_data, kernel_take, answer_routed, after_tend, after_packet, tend_arrived, arrived_context, tend_away, tend_front, tend_entry, tend_by, kernel_tend, placed_at, is_moving_at, after_switch, switch_entry, switch}
+use Rattle.m3_model.specs.Kernel.Step.{entry_act, entry_of, with_entry, with_residency, is_placed_entry, is_leaving_entry, join_ready, with_yielded, Routed, with_held, route_to, entry_for, route, first_due, is_due_entry, is_leaving_at, with_restore_of, with_restore, then_restore, take_routed, residency_of_saved, take_saved, done_grant, is_under_close, take_closed, take_yield, take_data, kernel_take, answer_routed, after_tend, after_packet, tend_arrived, arrived_context, tend_away, tend_front, tend_entry, tend_by, kernel_tend, placed_at, is_moving_at, after_switch, switch_entry, switch, kernel_id, own_packet_out, make_with, revoke_with, kernel_order, close_of, close_least, kernel_close}
 use Rattle.m3_model.specs.Machine.{of_kernel}
 use Rattle.m3_model.specs.NumberBounds.{HasBoundedCounters, ParcelBounded, ResidencyBounded, EntryBounded}
 use Rattle.m3_refine.proofs.bounds.ArriveKeepsBounds.{AllArrive, arrive_low}
@@ -218,7 +223,7 @@ module _ (h : Site) (n : ℕ) where
       by_moving true = (l, tt)
       by_moving false = switched_low k t x y (placed_at h t k.seats) l s
 
-  pub switch_low : (k : Kernel) (t : ℕ) (o : Option ActivityEntry) → LowKernel k → InSome (EntryBounded n) o → LowDeed n (of_kernel (switch h k t o))
+  switch_low : (k : Kernel) (t : ℕ) (o : Option ActivityEntry) → LowKernel k → InSome (EntryBounded n) o → LowDeed n (of_kernel (switch h k t o))
   switch_low k t None l s = (l, tt)
   switch_low k t (Some x) l s = by_home (tile_of h x.act == t)
     where
@@ -226,5 +231,40 @@ module _ (h : Site) (n : ℕ) where
       by_home true = switch_seat_low k t x x.seating l s
       by_home false = (l, tt)
 
-  pub kernel_switch_low : (k : Kernel) (t a : ℕ) → LowKernel k → LowDeed n (of_kernel (switch h k t (entry_of a k)))
-  kernel_switch_low k t a l = switch_low k t (entry_of a k) l (found_low a k l)
+  -- ---- the kernel's own packets, and any order
+
+  own_low : (old : Kernel) (said : Bool → Said) (o : Option Routed) → LowKernel old → InSome LowRouted o → LowDeed n (of_kernel (own_packet_out old said o))
+  own_low old said None l s = (l, tt)
+  own_low old said (Some r) l s = s
+
+  made_low : (k : Kernel) (line : GrantLine) (why : Option No) (f : Option Fresh) → LowKernel k → LowDeed n (of_kernel (make_with h k line why f))
+  made_low k line (Some why) f l = (l, tt)
+  made_low k line None None l = (l, tt)
+  made_low k line None (Some f) l =
+      let k1 : Kernel = record k { next = k.next + 1; grants = k.grants ++ new_grant line f ∷ [] } in
+      own_low k (λ held. Said.Granted (length k.grants + 1) (kernel_id k) held) (route h (Packet.Install (kernel_id k) (holder line) (holder_ep line) f) k1) l
+      (route_low (Packet.Install (kernel_id k) (holder line) (holder_ep line) f) k1 l)
+
+  revoked_low : (k : Kernel) (g : ℕ) (why : Option No) → LowKernel k → LowDeed n (of_kernel (revoke_with k g why))
+  revoked_low k g (Some why) l = (l, tt)
+  revoked_low k g None l = (l, tt)
+
+  closed_out_low : (k : Kernel) (g : ℕ) (o : Option Grant) → LowKernel k → LowDeed n (of_kernel (close_of h k g o))
+  closed_out_low k g None l = (l, tt)
+  closed_out_low k g (Some x) l =
+      let k1 : Kernel = record k { next = k.next + 1; grants = change_grant k.grants g (λ y. record y { close_sent = true }) } in
+      own_low k (λ held. Said.CloseSent g (kernel_id k) held) (route h (Packet.Close (kernel_id k) (holder x.line) (holder_ep x.line) g) k1) l
+      (route_low (Packet.Close (kernel_id k) (holder x.line) (holder_ep x.line) g) k1 l)
+
+  least_low : (k : Kernel) (o : Option ℕ) → LowKernel k → LowDeed n (of_kernel (close_least h k o))
+  least_low k None l = (l, tt)
+  least_low k (Some g) l = closed_out_low k g (grant_in k.grants g) l
+
+  pub kernel_close_low : (k : Kernel) → LowKernel k → LowDeed n (of_kernel (kernel_close h k))
+  kernel_close_low k l = least_low k (least_closing k.grants 1 k.grants) l
+
+  pub kernel_order_low : (k : Kernel) (o : Order) → LowKernel k → LowDeed n (of_kernel (kernel_order h k o))
+  kernel_order_low k (Order.Switch t a) l = switch_low k t (entry_of a k) l (found_low a k l)
+  kernel_order_low k (Order.Grant line) l =
+      made_low k line (make_refusal h.memory k.grants line) (form (length k.grants + 1) line (undone (parent_in k.grants (parent_of line)))) l
+  kernel_order_low k (Order.Revoke g) l = revoked_low k g (revoke_refusal (grant_in k.grants g)) l

@@ -30,8 +30,9 @@ use Rattle.m3_base.specs.Placement.Take as places_take
 use Rattle.m3_base.specs.Placement.Tend as places_tend
 use Rattle.m3_base.specs.Placement.State.{Placement, PlacedActivity}
 use Rattle.m3_base.specs.Placement.Step.{placement_step}
-use Rattle.m3_base.specs.Placement.Landing.{PlacementResult, said_or_nothing, LandingResult, landing_result, landing_result_by, closing_steps, labels_in, landing_step}
-use Rattle.m3_refine.proofs.labels.EventSaysIdealSteps.{SaidBy, SaysAs, CommandAs, TakeAs, one_step, command_as, do_as, take_as, tend_as}
+use Rattle.m3_base.specs.Placement.Landing.{PlacementResult, said_or_nothing}
+use Rattle.m3_refine.proofs.labels.EventSaysIdealSteps.{SaidBy, SaysAs, CommandAs, one_step, command_as, do_as}
+use Rattle.m3_refine.proofs.labels.TakesSayIdealSteps.{TakeAs, take_as, tend_as}
 
 -- ---- orders
 

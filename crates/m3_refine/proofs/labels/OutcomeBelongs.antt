@@ -1,5 +1,5 @@
 -- The outcome of a step belongs to its event by its form.
-use Rattle.std.proofs.Common.{◌≡◌, ℕ, ◌+◌, Bool, true, false, List, [], ◌∷◌, length, Option, Some, None, refl, subst}
+use Rattle.std.proofs.Common.{◌≡◌, ℕ, Bool, true, false, List, [], ◌∷◌, length, Option, Some, None, refl, subst}
 use Rattle.std.specs.Prelude.{if◌then◌else◌, ◌==◌, ◌&&◌, ◌||◌, not, ◌++◌}
 use Rattle.std.specs.List.{list_any}
 use Rattle.m3_base.specs.declared.command.Answer.{Answer}
@@ -38,6 +38,8 @@ use Rattle.m3_model.specs.Events.{IsServed}
 use Rattle.m3_model.specs.Kernel.Step as kernel
 use Rattle.m3_model.specs.Tile.Step as tile
 use Rattle.m3_refine.proofs.labels.CommandOutcomeBelongs.{IssuedTells, issue_tells}
+use Rattle.m3_refine.proofs.labels.OrderOutcomeBelongs.{and_true, HolderIsSeated, grant_form, revoke_form, close_form}
+use Rattle.std.proofs.lemmas.Bool.{and_from}
 
 -- ---- what is said of an arrival
 
@@ -91,14 +93,6 @@ arrive_named_says h x p = live_says x (arrive_fit x p) (is_named h p) (arrive_fi
 abbrev FormDeed : Event → Option (LocalResult Part) → Type 0
 FormDeed e None = Unit {0}
 FormDeed e (Some d) = is_allowed_outcome e d.outcome ≡ true
-
-and_true : (b : Bool) → b ≡ true → (b && true) ≡ true
-and_true true e = refl
-and_true false e = e
-
-and_both : (a b : Bool) → a ≡ true → b ≡ true → (a && b) ≡ true
-and_both true b e f = f
-and_both false b e f = e
 
 form_issued : (h : Site) (t : Tile) (a : ℕ) (c : Command) (o : Option Issued) → IssuedTells c o → is_allowed_outcome (Event.Do a c) (do_issued h t o).outcome ≡ true
 form_issued h t a c None k = refl
@@ -256,7 +250,7 @@ module _ (h : Site) (to from : ℕ) where
 
   form_tended_said : (a : ℕ) (said : Said) → (allows_for_tend said ≡ true) × (is_landing_outcome said ≡ true) → (o : Option ℕ) → is_allowed_outcome (Event.Tend a) (record { made = None; said = said; restore = o }) ≡ true
   form_tended_said a said k None = and_true (allows_for_tend said) k.0
-  form_tended_said a said k (Some b) = and_both (allows_for_tend said) (is_landing_outcome said) k.0 k.1
+  form_tended_said a said k (Some b) = and_from (allows_for_tend said) (is_landing_outcome said) k.0 k.1
 
   form_tended_by : (a t : ℕ) (said : Said) (freed : Option ℕ) (old : Kernel) (o : Option Routed) → (allows_for_tend said ≡ true) × (is_landing_outcome said ≡ true) → is_allowed_outcome (Event.Tend a) (after_tend h t said freed old o).outcome ≡ true
   form_tended_by a t said freed old None k = refl
@@ -318,16 +312,16 @@ form_ordered h (Kernel_part k) t a = form_switch h 0 0 a t k (entry_of a k)
 form_ordered h (Memory_part x) t a = tt
 form_ordered h (Tile_part x) t a = tt
 
-form_part : (h : Site) (m : Machine) (e : Event) → IsServed e → FormDeed e (part_step h (part_at (tile_for_event h e) m) e None (parcel_taken e m))
-form_part h m (Event.Do a c) s = form_command h (part_at (tile_of h a) m) a c
-form_part h m (Event.Take to from) s = form_take h to from (part_at to m) (front (link_at from to m))
-form_part h m (Event.Turn a) s = absurd s
-form_part h m (Event.Tend a) s = form_tending h (part_at 0 m) a
-form_part h m Event.Close s = absurd s
-form_part h m (Event.Order (Order.Switch t a)) s = form_ordered h (part_at 0 m) t a
-form_part h m (Event.Order (Order.Grant line)) s = absurd s
-form_part h m (Event.Order (Order.Revoke g)) s = absurd s
-form_part h m (Event.File l) s = absurd s
+form_part : (h : Site) (m : Machine) (e : Event) → IsServed e → HolderIsSeated m.kernel e → FormDeed e (part_step h (part_at (tile_for_event h e) m) e None (parcel_taken e m))
+form_part h m (Event.Do a c) s k = form_command h (part_at (tile_of h a) m) a c
+form_part h m (Event.Take to from) s k = form_take h to from (part_at to m) (front (link_at from to m))
+form_part h m (Event.Turn a) s k = absurd s
+form_part h m (Event.Tend a) s k = form_tending h (part_at 0 m) a
+form_part h m Event.Close s k = close_form h m.kernel
+form_part h m (Event.Order (Order.Switch t a)) s k = form_ordered h (part_at 0 m) t a
+form_part h m (Event.Order (Order.Grant line)) s k = grant_form h m.kernel line k
+form_part h m (Event.Order (Order.Revoke g)) s k = revoke_form h m.kernel g
+form_part h m (Event.File l) s k = absurd s
 
 form_done : (t : ℕ) (m : Machine) (e : Event) (o : Option (LocalResult Part)) (d : MachineResult) → FormDeed e o → done_by t m o ≡ Some d → is_allowed_outcome e d.outcome ≡ true
 form_done t m e None d p k = absurd (cc)
@@ -335,6 +329,6 @@ form_done t m e (Some x) d p k = let same : x.outcome ≡ d.outcome = cc in subs
 
 -- ---- the step's outcome
 
-pub form_of : (h : Site) (m : Machine) (e : Event) (o : Outcome) (next : Machine) → machine_step h m e None ≡ Some (record { outcome = o; machine = next }) → IsServed e → is_allowed_outcome e o ≡ true
-form_of h m e o next step serve_result =
-    form_done (tile_for_event h e) (without_front e m) e (part_step h (part_at (tile_for_event h e) m) e None (parcel_taken e m)) (record { outcome = o; machine = next }) (form_part h m e serve_result) step
+pub form_of : (h : Site) (m : Machine) (e : Event) (o : Outcome) (next : Machine) → machine_step h m e None ≡ Some (record { outcome = o; machine = next }) → IsServed e → HolderIsSeated m.kernel e → is_allowed_outcome e o ≡ true
+form_of h m e o next step served seated =
+    form_done (tile_for_event h e) (without_front e m) e (part_step h (part_at (tile_for_event h e) m) e None (parcel_taken e m)) (record { outcome = o; machine = next }) (form_part h m e served seated) step

@@ -1,6 +1,11 @@
 -- One element more, wherever it stands; and what a change of one place does to what all places have.
-use Rattle.std.proofs.Common.{◌≡◌, ℕ, zero, suc, ◌<◌, List, [], ◌∷◌, ◌++◌, refl, sym, ◌∙◌, ap, arith, append_assoc, set, get_or, length}
+use Rattle.std.proofs.Common.{◌≡◌, ℕ, zero, suc, ◌<◌, List, [], ◌∷◌, ◌++◌, refl, sym, ◌∙◌, ap, arith, append_assoc, set, get_or, length, subst}
 use Rattle.m3_model.specs.Abstraction.{flat_map, flat_links}
+use Rattle.m3_base.specs.Ideal.Context.{Context}
+use Rattle.m3_base.specs.Ideal.State.{context_of}
+use Rattle.m3_model.specs.Invariant.Housing.{IsPresent}
+use Rattle.m3_base.specs.Lists.EachElement.{Each}
+use Rattle.m3_merge.proofs.StampBounds.{each_back}
 
 -- ys is xs with x at some place
 pub record Inserts {Y : Type 0} (x : Y) (xs ys : List Y) : Type 0 where
@@ -136,3 +141,11 @@ module _ {X Y : Type 0} (f : X → List Y) where
             ∙ ap (λ l. r.front ++ l) (append_assoc now (x ∷ []) r.back)
             ∙ sym (append_assoc r.front now (x ∷ r.back));
       }
+
+-- whoever has a context among the first has one among the second
+abbrev pub StaysKnown : List Context → List Context → Type 0
+StaysKnown xs ys = (a : ℕ) → IsPresent (context_of a xs) → IsPresent (context_of a ys)
+
+-- what each has, the inserted one has
+pub inserted_each : {Y : Type 0} (P : Y → Type 0) (x : Y) (xs ys : List Y) → Inserts x xs ys → Each P ys → P x
+inserted_each P x xs ys i e = (each_back P i.front (x ∷ i.back) (subst (Each P) i.whole e)).0

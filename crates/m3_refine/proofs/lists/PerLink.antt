@@ -4,20 +4,20 @@ use Rattle.std.specs.Prelude.{◌==◌}
 use Rattle.std.proofs.lemmas.Bool.Decides.{nat_tests}
 use Rattle.m3_base.specs.Lists.Counting.{one, how_many}
 use Rattle.m3_base.specs.Ideal.Context.{Context}
-use Rattle.m3_base.specs.Ideal.State.{context_of}
+use Rattle.m3_base.specs.Ideal.State.{context_of, DistinctActs}
 use Rattle.m3_base.specs.Lists.EachElement.{Each}
 use Rattle.m3_merge.proofs.MergedIsRun.{each_append}
 use Rattle.m3_merge.proofs.StampBounds.{each_front, each_back}
 use Rattle.m3_model.specs.Parcel.{Parcel, Data, Save, Saved, Restore, Yield, Closed}
-use Rattle.m3_model.specs.Invariant.Distinct.{DistinctActs}
 use Rattle.m3_model.specs.Invariant.Housing.{IsPresent}
 use Rattle.m3_model.specs.Invariant.Parcels.{YieldsBeforeSaved, no_yield}
 use Rattle.m3_model.specs.Invariant.Scheduling.{is_save_of, saves_in_flight}
-use Rattle.m3_refine.proofs.lists.Insertion.{Inserts}
-use Rattle.m3_refine.proofs.abstraction.MoveWithinMachine.{length-set}
+use Rattle.m3_refine.proofs.lists.Insertion.{Inserts, StaysKnown}
 use Rattle.m3_refine.proofs.abstraction.MoveContext.{apart_moves}
-use Rattle.m3_refine.proofs.lists.Update.{total-set, how_many-append, links_set, is_link}
+use Rattle.m3_refine.proofs.lists.Update.{links_set, is_link}
 use Rattle.m3_refine.proofs.abstraction.PushParcel.{orderly_push}
+use Rattle.std.proofs.lemmas.List.{length-set}
+use Rattle.m3_base.proofs.Counting.{total-set, how_many-append}
 
 abbrev pub OnEach : (ℕ → ℕ → Parcel → Type 0) → List (List Parcel) → Type 0
 OnEach P links = (a b : ℕ) → a < 16 → b < 16 → Each (P a b) (get_or links (16 * a + b) [])
@@ -132,7 +132,7 @@ module _ (c : Context) (base xs ys : List Context) (i : Inserts c base xs) (k : 
       by_test true e ih = tt
       by_test false e ih = ih e
 
-  pub moves_known : (a : ℕ) → IsPresent (context_of a xs) → IsPresent (context_of a ys)
+  pub moves_known : StaysKnown xs ys
   moves_known a e =
       subst (λ l. IsPresent (context_of a l)) (sym k.whole) (known_back a k.front k.back (by_case (known_add a i.front i.back (subst (λ l. IsPresent (context_of a l)) i.whole e))))
     where

@@ -1,8 +1,7 @@
 -- One link among all, after it is set anew.
-use Rattle.std.proofs.Common.{◌≡◌, ℕ, zero, suc, ◌+◌, ◌*◌, ◌<◌, Bool, true, false, cond, List, [], ◌∷◌, ◌++◌, refl, sym, subst, arith, set, get_or, length}
+use Rattle.std.proofs.Common.{◌≡◌, ℕ, zero, suc, ◌+◌, ◌*◌, ◌<◌, Bool, true, false, cond, List, [], ◌∷◌, refl, sym, subst, arith, set, get_or, length}
 use Rattle.std.specs.Prelude.{◌==◌}
 use Rattle.std.proofs.lemmas.Bool.Decides.{nat_tests}
-use Rattle.m3_base.specs.Lists.Counting.{total, how_many}
 
 pub get_or-set : {X : Type 0} (xs : List X) (i j : ℕ) (y d : X) → i < length xs → get_or (set xs i y) j d ≡ cond (i == j) y (get_or xs j d)
 get_or-set [] i j y d h = absurd (omega arith)
@@ -10,15 +9,6 @@ get_or-set (x ∷ xs) zero zero y d h = refl
 get_or-set (x ∷ xs) zero (suc j) y d h = grind (arith, nat_tests)
 get_or-set (x ∷ xs) (suc i) zero y d h = grind (arith, nat_tests)
 get_or-set (x ∷ xs) (suc i) (suc j) y d h = let r = get_or-set xs i j y d (omega arith) in grind (arith, nat_tests, r)
-
-pub total-set : {X : Type 0} (f : X → ℕ) (xs : List X) (i : ℕ) (y d : X) → i < length xs → total f (set xs i y) + f (get_or xs i d) ≡ total f xs + f y
-total-set f [] i y d h = absurd (omega arith)
-total-set f (x ∷ xs) zero y d h = omega arith
-total-set f (x ∷ xs) (suc i) y d h = let r = total-set f xs i y d (omega arith) in omega arith
-
-pub how_many-append : {X : Type 0} (p : X → Bool) (xs ys : List X) → how_many p (xs ++ ys) ≡ how_many p xs + how_many p ys
-how_many-append p [] ys = omega arith
-how_many-append p (x ∷ xs) ys = let r = how_many-append p xs ys in omega arith
 
 -- two links are one link
 pub same_link : (f t a b : ℕ) → t < 16 → b < 16 → (16 * f + t == 16 * a + b) ≡ true → (f ≡ a) × (t ≡ b)

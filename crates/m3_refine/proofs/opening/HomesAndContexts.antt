@@ -8,7 +8,7 @@ use Rattle.m3_base.specs.declared.order.GrantLine.{GrantLine}
 use Rattle.m3_base.specs.declared.packet.Fresh.{Fresh}
 use Rattle.m3_base.specs.declared.setup_line.SetupLine.{SetupLine}
 use Rattle.m3_base.specs.Ideal.Context.{Free, Context, new_context, with_endpoint, new_endpoint}
-use Rattle.m3_base.specs.Ideal.State.{State, context_of, new_context_in, put_context, holder, holder_ep, parent_of, parent_in}
+use Rattle.m3_base.specs.Ideal.State.{State, context_of, new_context_in, put_context, holder, holder_ep, parent_of, parent_in, DistinctActs}
 use Rattle.m3_base.specs.Ideal.GrantRules.{form, new_grant}
 use Rattle.m3_base.specs.Ideal.Opening.{contexts_with_record, state_with_grant, with_line}
 use Rattle.m3_base.specs.Setup.Obligations.{Declared, LineIsOk}
@@ -18,7 +18,7 @@ use Rattle.m3_model.specs.Config.Site.{Home, Site}
 use Rattle.m3_model.specs.Config.KnownActivities.{is_home, names_at, is_named_context}
 use Rattle.m3_model.specs.Machine.{context_or_new}
 use Rattle.m3_model.specs.Abstraction.{sorted_by_act}
-use Rattle.m3_model.specs.Invariant.Distinct.{DistinctActs, DistinctHomes}
+use Rattle.m3_model.specs.Invariant.Distinct.{DistinctHomes}
 use Rattle.m3_model.specs.Invariant.Housing.{IsPresent}
 use Rattle.m3_refine.proofs.abstraction.MoveWithinMachine.{by_act-middle}
 use Rattle.m3_refine.proofs.abstraction.MoveContext.{apart_add}
@@ -26,6 +26,7 @@ use Rattle.m3_refine.proofs.abstraction.ChangeContext.{Swaps, swaps_state, swaps
 use Rattle.m3_refine.proofs.arrival.KeepsKnownActivities.{all_set, opened_named}
 use Rattle.m3_refine.proofs.opening.ContextTable.{found_new, found_beside, found_put, found_kept}
 use Rattle.m3_refine.proofs.abstraction.OpeningLines.{home_in, home_last, home_kept, homes_more, its_context, Has, acts_back, there_in, form_names, each_grant}
+use Rattle.m3_base.proofs.Activities.{act_found}
 
 -- how far the ideal opening has come: the homes that were declared, and the state
 pub record Along (h : Site) (s : State) (ds : List Home) : Type 0 where
@@ -207,15 +208,11 @@ module _ (h : Site) (s : State) (ds : List Home) (l : Along h s ds) (line : Gran
       declared_some None d = absurd d
       declared_some (Some c) d = (c, refl)
 
-  act_key : (a : ℕ) (c : Context) (cs : List Context) → context_of a cs ≡ Some c → c.act ≡ a
-  act_key a c [] e = absurd (cc)
-  act_key a c (x ∷ cs) e = grind (arith, nat_tests, e, act_key a c cs)
-
   grant_by : (o : Option Fresh) → form (length s.grants + 1) line (parent_in s.grants (parent_of line)) ≡ o → Along h (state_with_grant s line o) ds
   grant_by None e = l
   grant_by (Some f) e =
       let c = holder_context.0 in
-      let is : c.act ≡ holder line = act_key (holder line) c s.contexts holder_context.1 in
+      let is : c.act ≡ holder line = sym (act_found (holder line) c s.contexts holder_context.1) in
       let there : context_of c.act s.contexts ≡ Some c = subst (λ n. context_of n s.contexts ≡ Some c) (sym is) holder_context.1 in
       let d = with_endpoint c (holder_ep line) (new_endpoint f) in
       let swaps = its_swaps s.contexts c d refl there ds l.homes (l.declared c.act (there_by (context_of c.act s.contexts) c there)) in
@@ -242,7 +239,7 @@ module _ (h : Site) (s : State) (ds : List Home) (l : Along h s ds) (line : Gran
           c = holder_context.0
 
           its : context_of holder_context.0.act s.contexts ≡ Some holder_context.0
-          its = subst (λ n. context_of n s.contexts ≡ Some holder_context.0) (sym (act_key (holder line) holder_context.0 s.contexts holder_context.1)) holder_context.1
+          its = subst (λ n. context_of n s.contexts ≡ Some holder_context.0) (act_found (holder line) holder_context.0 s.contexts holder_context.1) holder_context.1
 
           by_test : (b : Bool) → (holder_context.0.act == a) ≡ b → IsPresent (context_of a s.contexts)
           by_test false e = subst IsPresent (kept s.contexts holder_context.0 (with_endpoint holder_context.0 (holder_ep line) (new_endpoint f)) refl its a e) k

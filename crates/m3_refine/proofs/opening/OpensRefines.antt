@@ -1,14 +1,14 @@
 -- A setup's machine opens sound, as the ideal machine and the places open.
 use Rattle.std.proofs.Common.{◌≡◌, ℕ, zero, suc, ◌+◌, ◌*◌, ◌<◌, ◌≤◌, Bool, true, false, cond, List, [], ◌∷◌, ◌++◌, Some, None, refl, sym, subst, ◌∙◌, ap, arith, get_or, length, map, replicate, Option}
-use Rattle.std.specs.Prelude.{◌==◌, ◌&&◌}
+use Rattle.std.specs.Prelude.{◌==◌, ◌&&◌, is_some}
 use Rattle.std.specs.List.{list_any}
 use Rattle.std.proofs.lemmas.Bool.Decides.{nat_tests}
 use Rattle.m3_base.specs.declared.setup_line.SetupLine.{SetupLine}
 use Rattle.m3_base.specs.Lists.Keyed as keyed
 use Rattle.m3_base.specs.Lists.Counting.{one, how_many}
-use Rattle.m3_base.specs.Ideal.State.{State, context_of, same_act}
+use Rattle.m3_base.specs.Ideal.State.{State, context_of, same_act, DistinctActs}
 use Rattle.m3_base.specs.Placement.Opening as places_opening
-use Rattle.m3_base.specs.Placement.State.{Placement, PlacedActivity}
+use Rattle.m3_base.specs.Placement.State.{Placement}
 use Rattle.m3_base.specs.Lists.EachElement.{Each}
 use Rattle.m3_merge.proofs.MergedIsRun.{each_map}
 use Rattle.m3_model.specs.Config.Site.{Home, Site, home_act, home_of, tile_of, tile_in}
@@ -17,9 +17,8 @@ use Rattle.m3_model.specs.Kernel.State.{EntryResidency, Is_placed, Is_leaving, I
 use Rattle.m3_model.specs.Config.KnownActivities.{is_home, is_named_context}
 use Rattle.m3_model.specs.Tile.Step.{resident_act, resident_of, act_in}
 use Rattle.m3_model.specs.Kernel.Step.{entry_act, entry_of}
-use Rattle.m3_model.specs.Machine.{Machine, empty_tile, tile_at, new_stay, is_there}
+use Rattle.m3_model.specs.Machine.{Machine, empty_tile, tile_at, new_stay}
 use Rattle.m3_model.specs.Abstraction.{flat_links, contexts_in, all_contexts, sorted_by_act, current_act, placement_of}
-use Rattle.m3_model.specs.Invariant.Distinct.{DistinctActs}
 use Rattle.m3_model.specs.Invariant.Housing.{IsPresent}
 use Rattle.m3_model.specs.Invariant.LinkWalk.{placed_on}
 use Rattle.m3_refine.proofs.abstraction.FindActor.{apart-by_act}
@@ -33,15 +32,19 @@ use Rattle.m3_base.specs.Ideal.Opening.{opening}
 use Rattle.m3_model.specs.Kernel.Step.{is_leaving_entry, is_leaving_at, is_coming_entry}
 use Rattle.m3_model.specs.Machine.{empty_tiles, link_at, opened_machine}
 use Rattle.m3_model.specs.Config.FromSetup.{site_of}
-use Rattle.m3_model.specs.Abstraction.{packets_in, closed_in, all_packets, all_closed, sorted_by_name, is_in, closed_from, ideal_of}
-use Rattle.m3_model.specs.Invariant.Distinct.{DistinctNames, DistinctClosed}
+use Rattle.m3_model.specs.Abstraction.{packets_in, closed_in, all_packets, all_closed, is_in, closed_from, ideal_of}
+use Rattle.m3_model.specs.Invariant.Distinct.{DistinctClosed}
 use Rattle.m3_model.specs.Invariant.LinkWalk.{At, CurrentAlongLink}
 use Rattle.m3_model.specs.Invariant.Structure.{MachineStructure}
 use Rattle.m3_model.specs.Invariant.Parcels.{ParcelOk, YieldsBeforeSaved, EndedFlagIs}
 use Rattle.m3_model.specs.Invariant.Scheduling.{EntryOk, HoldOk, is_save_of, saves_in_flight, is_leaving_of, is_coming_at}
 use Rattle.m3_model.specs.Invariant.Housing.{resident_at}
 use Rattle.m3_refine.proofs.opening.PlaceAll.{with_homes, all_seated}
-use Rattle.m3_refine.proofs.opening.OpensSound.{homes_of, quantum_of, TilesOk, site_is, lines_are, places_quantum, along_lines, found_there, there_home, tiles_in, no_links, no_link, no_total, no_length, none_closed, no_holds, count_none, blank_current, blank_stays, is_there_of}
+use Rattle.m3_refine.proofs.opening.OpensSound.{homes_of, quantum_of, TilesOk, site_is, lines_are, places_quantum, along_lines, found_there, there_home, tiles_in, no_links, no_link, no_total, none_closed, no_holds, count_none, blank_current, blank_stays}
+use Rattle.m3_base.specs.Ideal.Flights.{sorted_by_name}
+use Rattle.m3_base.specs.Ideal.FlightNames.{Distinct}
+use Rattle.m3_base.proofs.Options.{some_if_some}
+use Rattle.std.proofs.lemmas.List.{length-replicate}
 
 open_leaving : (x : ActivityEntry) → OpenSeat x → is_leaving_entry x.seating ≡ false
 open_leaving x k = by_seating x.act x.seating k.1
@@ -108,7 +111,7 @@ module _ (h : Site) (s : State) (m : Machine) (l : Along h s h.homes) (high : Ea
   no_parcels from to = ap (λ z. get_or z (16 * from + to) []) j.links ∙ no_link 256 (16 * from + to)
 
   a_home : (a : ℕ) → is_home h a ≡ true → (y : Home) × (home_of a h ≡ Some y)
-  a_home a k = is_there_of (home_of a h) k
+  a_home a k = some_if_some (home_of a h) k
 
   stay_is : (a : ℕ) → is_home h a ≡ true → resident_at h m.tiles a ≡ Some (new_stay a)
   stay_is a k =
@@ -150,7 +153,7 @@ module _ (h : Site) (s : State) (m : Machine) (l : Along h s h.homes) (high : Ea
           tiles = λ a y e. (found_each home_act (λ x. (2 ≤ x.tile) × (x.tile < 16)) a h.homes y high e).0;
         };
         tiles = j.tiles;
-        links = ap length j.links ∙ no_length {X = List Parcel} 256 [];
+        links = ap length j.links ∙ length-replicate {A = List Parcel} 256 [];
         acts = j.acts;
         known = λ a k.
             let y = a_home a k in
@@ -158,7 +161,7 @@ module _ (h : Site) (s : State) (m : Machine) (l : Along h s h.homes) (high : Ea
             let there : context_of a s.contexts ≡ Some f.0.context = subst (λ n. context_of n s.contexts ≡ Some f.0.context) f.1 f.0.found in
             not_none (context_of a (all_contexts m)) (λ n. let z : context_of a s.contexts ≡ None = ap (context_of a) (sym contexts_are) ∙ apart-by_act a (all_contexts m) n in absurd (cc));
         named = j.named;
-        names = subst DistinctNames (sym no_packets) tt;
+        names = subst Distinct (sym no_packets) tt;
         housed = record {
           seats = j.seats;
           tiles = j.number;
@@ -240,7 +243,7 @@ first_seated h s =
       stays = tt;
       unstayed = λ a t e. ap (keyed.find resident_act same_act a) (first_stays t);
       unready = λ a t e. no_ready 16 t a;
-      taken = λ t. ap is_there (first_current t);
+      taken = λ t. ap is_some (first_current t);
       current = λ t c e. absurd (let z = first_current t in cc);
       placed = λ t. ap act_in (first_current t);
       filled = λ t. refl;

@@ -1,5 +1,5 @@
 -- The machine at opening: it is sound, and is the ideal opening and the opening of the places.
-use Rattle.std.proofs.Common.{◌≡◌, ℕ, zero, suc, ◌+◌, ◌<◌, ◌≤◌, Bool, true, false, cond, List, [], ◌∷◌, ◌++◌, Some, None, refl, sym, subst, ◌∙◌, ap, arith, append_assoc, append-nil, set, get_or, length, map, replicate, Option}
+use Rattle.std.proofs.Common.{◌≡◌, ℕ, zero, suc, ◌+◌, ◌<◌, ◌≤◌, Bool, true, false, cond, List, [], ◌∷◌, ◌++◌, Some, None, refl, sym, subst, ◌∙◌, ap, arith, append_assoc, append-nil, set, get_or, map, replicate, Option}
 use Rattle.std.specs.Prelude.{if◌then◌else◌, ◌==◌, ◌&&◌, is_some}
 use Rattle.std.specs.List.{list_any}
 use Rattle.std.proofs.lemmas.Bool.Decides.{nat_tests}
@@ -28,10 +28,6 @@ use Rattle.m3_model.specs.Config.FromSetup.{with_home, site_of}
 use Rattle.m3_model.specs.Config.FromSetup as sites
 use Rattle.m3_model.specs.Abstraction.{held_by, closed_from}
 use Rattle.m3_refine.proofs.opening.HomesAndContexts.{act_along, grant_along}
-
-pub is_there_of : {X : Type 0} (o : Option X) → is_some o ≡ true → (x : X) × (o ≡ Some x)
-is_there_of None k = absurd (cc)
-is_there_of (Some x) k = (x, refl)
 
 -- ---- the lines of a setup, as homes and a quantum
 
@@ -168,10 +164,6 @@ no_link (suc n) (suc i) = no_link n i
 pub no_total : (f : List Parcel → ℕ) → f [] ≡ 0 → (n : ℕ) → total f (replicate n []) ≡ 0
 no_total f e zero = refl
 no_total f e (suc n) = let r = no_total f e n in omega arith
-
-pub no_length : {X : Type 0} (n : ℕ) (x : X) → length (replicate n x) ≡ n
-no_length zero x = refl
-no_length (suc n) x = ap (λ k. suc k) (no_length n x)
 
 pub none_closed : (n : ℕ) (gs : List Grant) → closed_from n [] gs ≡ gs
 none_closed n [] = refl

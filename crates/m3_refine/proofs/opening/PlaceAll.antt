@@ -1,23 +1,22 @@
 -- The places of a machine in which one more home is seated, and then all.
 use Rattle.std.proofs.Common.{◌≡◌, ℕ, ◌<◌, ◌≤◌, Bool, true, false, cond, List, [], ◌∷◌, ◌++◌, Some, None, refl, sym, subst, ◌∙◌, ap, arith, append_assoc, append-nil, set, length, map, Option}
-use Rattle.std.specs.Prelude.{if◌then◌else◌, ◌==◌, ◌&&◌}
+use Rattle.std.specs.Prelude.{if◌then◌else◌, ◌==◌, ◌&&◌, is_some}
 use Rattle.std.specs.List.{list_any}
 use Rattle.std.proofs.lemmas.Bool.Decides.{nat_tests}
 use Rattle.std.proofs.lemmas.List.{map-append, map-set, set-get_or}
 use Rattle.m3_base.specs.Ideal.Context.{Context}
-use Rattle.m3_base.specs.Ideal.State.{State, context_of}
+use Rattle.m3_base.specs.Ideal.State.{State, context_of, DistinctActs}
 use Rattle.m3_base.specs.Placement.State as places_state
 use Rattle.m3_base.specs.Placement.Opening as places_opening
-use Rattle.m3_base.specs.Placement.State.{Placement, PlacedActivity}
+use Rattle.m3_base.specs.Placement.State.{Placement}
 use Rattle.m3_base.specs.Lists.EachElement.{Each}
 use Rattle.m3_merge.proofs.StampBounds.{each_front, each_back}
 use Rattle.m3_model.specs.Config.Site.{Home, Site}
 use Rattle.m3_model.specs.Config.KnownActivities.{is_named_context}
 use Rattle.m3_model.specs.Tile.Step.{resident_of, act_in}
 use Rattle.m3_model.specs.Kernel.Step.{entry_act, entry_of}
-use Rattle.m3_model.specs.Machine.{Machine, empty_tile, tile_at, new_stay, first_there, residency_at_opening, joined_ready, is_there, entry_at_opening, with_entries}
+use Rattle.m3_model.specs.Machine.{Machine, empty_tile, tile_at, new_stay, first_there, residency_at_opening, joined_ready, entry_at_opening, with_entries}
 use Rattle.m3_model.specs.Abstraction.{actor_in, actor_by, current_act, link_token, placement_of}
-use Rattle.m3_model.specs.Invariant.Distinct.{DistinctActs}
 use Rattle.m3_model.specs.Invariant.Housing.{IsPresent, HasHome}
 use Rattle.m3_model.specs.Invariant.Scheduling.{has_home}
 use Rattle.m3_refine.proofs.abstraction.OpeningLines.{home_in, its_context}
@@ -68,11 +67,11 @@ module _ (h : Site) (s : State) (ds : List Home) (m : Machine) (j : SeatedSoFar 
   abbrev P : Placement
   P = placement_of (with_homes h ds) m
 
-  is_taken : list_any (λ y. y.home == x.tile) (placement_of (with_homes h ds) m).actors ≡ is_there o
-  is_taken = any-homes m x.tile ds ∙ sym (j.taken x.tile) ∙ ap is_there e
+  is_taken : list_any (λ y. y.home == x.tile) (placement_of (with_homes h ds) m).actors ≡ is_some o
+  is_taken = any-homes m x.tile ds ∙ sym (j.taken x.tile) ∙ ap is_some e
 
   currents : (o : Option Context) → (tile_at x.tile m).current ≡ o
-      → cond (is_there o) (map current_act m.tiles) (set (map current_act m.tiles) x.tile (Some x.act))
+      → cond (is_some o) (map current_act m.tiles) (set (map current_act m.tiles) x.tile (Some x.act))
       ≡ map current_act (set m.tiles x.tile (record (tile_at x.tile m) { current = first_there o c; stays = (tile_at x.tile m).stays ++ new_stay x.act ∷ [] }))
   currents None f =
       ap (λ a. set (map current_act m.tiles) x.tile (Some a)) (sym act)
@@ -100,21 +99,21 @@ module _ (h : Site) (s : State) (ds : List Home) (m : Machine) (j : SeatedSoFar 
       )
 
   place_is : (o : Option Context) → places_state.Residency
-  place_is o = if is_there o then places_state.Resting else places_state.Placed
+  place_is o = if is_some o then places_state.Resting else places_state.Placed
 
-  actor_new : actor_in n x ≡ places_opening.opened_actor x.act x.tile (if is_there o then places_state.Resting else places_state.Placed) x.has_program
+  actor_new : actor_in n x ≡ places_opening.opened_actor x.act x.tile (if is_some o then places_state.Resting else places_state.Placed) x.has_program
   actor_new =
       ap (λ z. actor_by x z (resident_of x.act (tile_at x.tile n))) (find_last entry_act x.act m.kernel.seats (record { act = x.act; seating = residency_at_opening o c; hold = [] }) (j.unseated x.act new) refl)
       ∙ ap (actor_by x (Some (record { act = x.act; seating = residency_at_opening o c; hold = [] }))) (each_back (λ y. resident_of y.act (tile_at y.tile n) ≡ Some (new_stay y.act)) ds (x ∷ []) next.stays).0
       ∙ by_there o
     where
-      by_there : (o : Option Context) → actor_by x (Some (record { act = x.act; seating = residency_at_opening o c; hold = [] })) (Some (new_stay x.act)) ≡ places_opening.opened_actor x.act x.tile (if is_there o then places_state.Resting else places_state.Placed) x.has_program
+      by_there : (o : Option Context) → actor_by x (Some (record { act = x.act; seating = residency_at_opening o c; hold = [] })) (Some (new_stay x.act)) ≡ places_opening.opened_actor x.act x.tile (if is_some o then places_state.Resting else places_state.Placed) x.has_program
       by_there None = refl
       by_there (Some z) = refl
 
   pub place_step : placement_of (with_homes h (ds ++ x ∷ [])) n ≡ place_home (placement_of (with_homes h ds) m) x
   place_step =
-      let b = is_there o in
+      let b = is_some o in
       let start = record (placement_of (with_homes h ds) m) {
         current = cond b (map current_act m.tiles) (set (map current_act m.tiles) x.tile (Some x.act));
         actors = map (actor_in m) ds ++ places_opening.opened_actor x.act x.tile (if b then places_state.Resting else places_state.Placed) x.has_program ∷ [];
@@ -145,7 +144,7 @@ module _ (h : Site) (s : State) (ds : List Home) (m : Machine) (j : SeatedSoFar 
         tiles = set m.tiles x.tile (record (tile_at x.tile m) { current = first_there z c; stays = (tile_at x.tile m).stays ++ new_stay x.act ∷ [] });
         kernel = record m.kernel {
           seats = m.kernel.seats ++ record { act = x.act; seating = residency_at_opening z c; hold = [] } ∷ [];
-          ready = joined_ready (is_there z && x.has_program) x.tile x.act m.kernel.ready;
+          ready = joined_ready (is_some z && x.has_program) x.tile x.act m.kernel.ready;
         };
       }) e
 

@@ -3,7 +3,7 @@ use Rattle.std.proofs.Common.{◌≡◌, ℕ, ◌+◌, ◌<◌, Bool, true, fals
 use Rattle.std.specs.Prelude.{◌==◌, not, ◌&&◌, ◌||◌, is_some}
 use Rattle.std.specs.List.{list_any}
 use Rattle.std.proofs.lemmas.Bool.Decides.{nat_tests}
-use Rattle.std.proofs.lemmas.List.{map-append}
+use Rattle.std.proofs.lemmas.List.{map-append, length-set}
 use Rattle.m3_base.specs.Lists.Counting.{one, how_many}
 use Rattle.m3_base.specs.Ideal.Context.{Context}
 use Rattle.m3_base.specs.Ideal.State.{State, context_of, new_context_in}
@@ -15,18 +15,19 @@ use Rattle.m3_model.specs.Kernel.State.{Is_placed, Is_resting, ActivityEntry, Ke
 use Rattle.m3_model.specs.Config.KnownActivities.{is_named_context}
 use Rattle.m3_model.specs.Tile.Step.{resident_act, resident_of, act_in}
 use Rattle.m3_model.specs.Kernel.Step.{entry_act, entry_of, placed_at}
-use Rattle.m3_model.specs.Machine.{Machine, empty_tile, tile_at, new_stay, first_there, residency_at_opening, joined_ready, is_there}
+use Rattle.m3_model.specs.Machine.{Machine, empty_tile, tile_at, new_stay, first_there, residency_at_opening, joined_ready}
 use Rattle.m3_model.specs.Abstraction.{flat_map, flat_links, option_list, tile_contexts, entry_contexts, contexts_in, all_contexts, sorted_by_act}
 use Rattle.m3_model.specs.Invariant.Housing.{IsPresent, HasHome}
 use Rattle.m3_model.specs.Invariant.LinkWalk.{act_of_entry, placed_on}
 use Rattle.m3_model.specs.Invariant.Scheduling.{is_placed_at, has_home}
 use Rattle.m3_refine.proofs.lists.Insertion.{Inserts, inserts_left, inserts_right, around_set, fills, alike, each-append}
-use Rattle.m3_refine.proofs.abstraction.MoveWithinMachine.{by_act-inserts, by_act-middle, length-set}
+use Rattle.m3_refine.proofs.abstraction.MoveWithinMachine.{by_act-inserts, by_act-middle}
 use Rattle.m3_refine.proofs.abstraction.FindActor.{apart-by_act}
-use Rattle.m3_refine.proofs.lists.Update.{get_or-set, how_many-append}
+use Rattle.m3_refine.proofs.lists.Update.{get_or-set}
 use Rattle.m3_refine.proofs.abstraction.OpeningLines.{home_in, its_context, acts_back}
 use Rattle.m3_refine.proofs.opening.PlaceOneByOne.{find_before, find_last, find_none, any-append, home_parts, OpenSeat, SeatedSoFar, apart_joins, each_joins, placed-append}
 use Rattle.m3_refine.proofs.opening.HomesAndContexts.{some_there, there_by}
+use Rattle.m3_base.proofs.Counting.{how_many-append}
 
 module _ (h : Site) (s : State) (ds : List Home) (m : Machine) (j : SeatedSoFar h s ds m) (x : Home) (c : Context)
     (new : home_in x.act ds ≡ None) (high : x.tile < 16) (lives : HasHome h x.tile x.act)
@@ -42,7 +43,7 @@ module _ (h : Site) (s : State) (ds : List Home) (m : Machine) (j : SeatedSoFar 
   kernel' =
       record m.kernel {
         seats = m.kernel.seats ++ record { act = x.act; seating = residency_at_opening o c; hold = [] } ∷ [];
-        ready = joined_ready (is_there o && x.has_program) x.tile x.act m.kernel.ready;
+        ready = joined_ready (is_some o && x.has_program) x.tile x.act m.kernel.ready;
       }
 
   abbrev pub seated_one : Machine
@@ -51,7 +52,7 @@ module _ (h : Site) (s : State) (ds : List Home) (m : Machine) (j : SeatedSoFar 
         tiles = set m.tiles x.tile (record (tile_at x.tile m) { current = first_there o c; stays = (tile_at x.tile m).stays ++ new_stay x.act ∷ [] });
         kernel = record m.kernel {
           seats = m.kernel.seats ++ record { act = x.act; seating = residency_at_opening o c; hold = [] } ∷ [];
-          ready = joined_ready (is_there o && x.has_program) x.tile x.act m.kernel.ready;
+          ready = joined_ready (is_some o && x.has_program) x.tile x.act m.kernel.ready;
         };
       }
 
@@ -137,7 +138,7 @@ module _ (h : Site) (s : State) (ds : List Home) (m : Machine) (j : SeatedSoFar 
   -- ---- ready lists
 
   unready' : (a t : ℕ) → home_in a (ds ++ x ∷ []) ≡ None → list_any (λ b. b == a) (get_or kernel'.ready t []) ≡ false
-  unready' a t k = by_join (is_there o && x.has_program)
+  unready' a t k = by_join (is_some o && x.has_program)
     where
       p : (home_in a ds ≡ None) × ((a == x.act) ≡ false)
       p = home_parts a ds x k
@@ -161,7 +162,7 @@ module _ (h : Site) (s : State) (ds : List Home) (m : Machine) (j : SeatedSoFar 
           by_test false = old t
 
   length_joined : length kernel'.ready ≡ 16
-  length_joined = by_join (is_there o && x.has_program)
+  length_joined = by_join (is_some o && x.has_program)
     where
       by_join : (b : Bool) → length (joined_ready b x.tile x.act m.kernel.ready) ≡ 16
       by_join true = length-set m.kernel.ready x.tile (get_or m.kernel.ready x.tile [] ++ x.act ∷ []) ∙ j.readies
@@ -169,13 +170,13 @@ module _ (h : Site) (s : State) (ds : List Home) (m : Machine) (j : SeatedSoFar 
 
   -- ---- who is where
 
-  taken' : (t : ℕ) → is_there (tile_at t seated_one).current ≡ has_home t (ds ++ x ∷ [])
+  taken' : (t : ℕ) → is_some (tile_at t seated_one).current ≡ has_home t (ds ++ x ∷ [])
   taken' t =
-      tile_by (λ v z. is_there z.current ≡ (has_home v ds || (x.tile == v))) t
+      tile_by (λ v z. is_some z.current ≡ (has_home v ds || (x.tile == v))) t
       (λ d. j.taken t ∙ (let z = d in grind (arith, z))) (λ d. by_there o ∙ (let r : (x.tile == t) ≡ true = grind (arith, nat_tests, d) in grind (arith, r)))
       ∙ sym (any-append (λ y. y.tile == t) ds x)
     where
-      by_there : (o : Option Context) → is_there (first_there o c) ≡ true
+      by_there : (o : Option Context) → is_some (first_there o c) ≡ true
       by_there None = refl
       by_there (Some z) = refl
 
@@ -190,7 +191,7 @@ module _ (h : Site) (s : State) (ds : List Home) (m : Machine) (j : SeatedSoFar 
   tile_is : tile_of h x.act ≡ x.tile
   tile_is = ap tile_in lives.1 ∙ lives.2
 
-  placed_new : (t : ℕ) (o : Option Context) → is_placed_at h t (record { act = x.act; seating = residency_at_opening o c; hold = [] }) ≡ ((x.tile == t) && not (is_there o))
+  placed_new : (t : ℕ) (o : Option Context) → is_placed_at h t (record { act = x.act; seating = residency_at_opening o c; hold = [] }) ≡ ((x.tile == t) && not (is_some o))
   placed_new t None = ap (λ n. (n == t) && true) tile_is
   placed_new t (Some z) = ap (λ n. (n == t) && false) tile_is
 
@@ -199,25 +200,25 @@ module _ (h : Site) (s : State) (ds : List Home) (m : Machine) (j : SeatedSoFar 
 
   placed' : (t : ℕ) → act_in (tile_at t seated_one).current ≡ placed_on h t kernel'
   placed' t =
-      tile_by (λ v z. act_in z.current ≡ act_of_entry (cond (is_some (placed_at h v m.kernel.seats)) (placed_at h v m.kernel.seats) (cond ((x.tile == v) && not (is_there o)) (Some seat') None))) t
+      tile_by (λ v z. act_in z.current ≡ act_of_entry (cond (is_some (placed_at h v m.kernel.seats)) (placed_at h v m.kernel.seats) (cond ((x.tile == v) && not (is_some o)) (Some seat') None))) t
       (λ d. j.placed t ∙ by_old (placed_at h t m.kernel.seats) d)
-      (λ d. subst (λ v. act_in (first_there o c) ≡ act_of_entry (cond (is_some (placed_at h v m.kernel.seats)) (placed_at h v m.kernel.seats) (cond ((x.tile == v) && not (is_there o)) (Some seat') None))) d here')
+      (λ d. subst (λ v. act_in (first_there o c) ≡ act_of_entry (cond (is_some (placed_at h v m.kernel.seats)) (placed_at h v m.kernel.seats) (cond ((x.tile == v) && not (is_some o)) (Some seat') None))) d here')
       ∙ ap (λ b. act_of_entry (cond (is_some (placed_at h t m.kernel.seats)) (placed_at h t m.kernel.seats) (cond b (Some seat') None))) (sym (placed_new t o))
       ∙ sym (ap act_of_entry (placed-append h t m.kernel.seats seat' (placed_at h t m.kernel.seats) refl))
     where
-      by_old : (q : Option ActivityEntry) → (x.tile == t) ≡ false → act_of_entry q ≡ act_of_entry (cond (is_some q) q (cond ((x.tile == t) && not (is_there o)) (Some seat') None))
+      by_old : (q : Option ActivityEntry) → (x.tile == t) ≡ false → act_of_entry q ≡ act_of_entry (cond (is_some q) q (cond ((x.tile == t) && not (is_some o)) (Some seat') None))
       by_old (Some y) d = refl
-      by_old None d = ap (λ b. act_of_entry (cond (b && not (is_there o)) (Some seat') None)) (sym d)
+      by_old None d = ap (λ b. act_of_entry (cond (b && not (is_some o)) (Some seat') None)) (sym d)
 
       by_here : (o : Option Context) (q : Option ActivityEntry) → act_in o ≡ act_of_entry q → (b : Bool) → b ≡ true
-          → act_in (first_there o c) ≡ act_of_entry (cond (is_some q) q (cond (b && not (is_there o)) (Some (record { act = x.act; seating = residency_at_opening o c; hold = [] })) None))
+          → act_in (first_there o c) ≡ act_of_entry (cond (is_some q) q (cond (b && not (is_some o)) (Some (record { act = x.act; seating = residency_at_opening o c; hold = [] })) None))
       by_here None None k true d = ap (λ n. Some n) act
       by_here None (Some y) k b d = absurd (cc)
       by_here (Some z) None k b d = absurd (cc)
       by_here (Some z) (Some y) k b d = k
       by_here None None k false d = absurd (cc)
 
-      here' : act_in (first_there o c) ≡ act_of_entry (cond (is_some (placed_at h x.tile m.kernel.seats)) (placed_at h x.tile m.kernel.seats) (cond ((x.tile == x.tile) && not (is_there o)) (Some seat') None))
+      here' : act_in (first_there o c) ≡ act_of_entry (cond (is_some (placed_at h x.tile m.kernel.seats)) (placed_at h x.tile m.kernel.seats) (cond ((x.tile == x.tile) && not (is_some o)) (Some seat') None))
       here' = by_here o (placed_at h x.tile m.kernel.seats) (ap act_in (sym e) ∙ j.placed x.tile) (x.tile == x.tile) (grind (arith, nat_tests))
 
   filled' : (t : ℕ) → how_many (is_placed_at h t) kernel'.seats ≡ one (has_home t (ds ++ x ∷ []))
@@ -228,8 +229,8 @@ module _ (h : Site) (s : State) (ds : List Home) (m : Machine) (j : SeatedSoFar 
       ∙ by_tile (x.tile == t) refl
       ∙ ap one (sym (any-append (λ y. y.tile == t) ds x))
     where
-      there_is : is_there o ≡ has_home x.tile ds
-      there_is = ap is_there (sym e) ∙ j.taken x.tile
+      there_is : is_some o ≡ has_home x.tile ds
+      there_is = ap is_some (sym e) ∙ j.taken x.tile
 
       sums : (b d : Bool) → b ≡ d → one b + (one (true && not d) + 0) ≡ one (b || true)
       sums true true k = refl
@@ -237,10 +238,10 @@ module _ (h : Site) (s : State) (ds : List Home) (m : Machine) (j : SeatedSoFar 
       sums true false k = absurd (cc)
       sums false true k = absurd (cc)
 
-      by_tile : (b : Bool) → (x.tile == t) ≡ b → one (has_home t ds) + (one (b && not (is_there o)) + 0) ≡ one (has_home t ds || b)
+      by_tile : (b : Bool) → (x.tile == t) ≡ b → one (has_home t ds) + (one (b && not (is_some o)) + 0) ≡ one (has_home t ds || b)
       by_tile true d =
           let k : x.tile ≡ t = grind (arith, nat_tests, d) in
-          sums (has_home t ds) (is_there o) (sym (there_is ∙ ap (λ n. has_home n ds) k))
+          sums (has_home t ds) (is_some o) (sym (there_is ∙ ap (λ n. has_home n ds) k))
       by_tile false d = by_has (has_home t ds)
         where
           by_has : (b : Bool) → one b + (one false + 0) ≡ one (b || false)

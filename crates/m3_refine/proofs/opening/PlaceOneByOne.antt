@@ -6,10 +6,10 @@ use Rattle.std.proofs.lemmas.Bool.Decides.{nat_tests}
 use Rattle.m3_base.specs.Lists.Keyed as keyed
 use Rattle.m3_base.specs.Lists.Counting.{one, how_many}
 use Rattle.m3_base.specs.Ideal.Context.{Context}
-use Rattle.m3_base.specs.Ideal.State.{State, context_of, same_act}
+use Rattle.m3_base.specs.Ideal.State.{State, context_of, same_act, DistinctActs}
 use Rattle.m3_base.specs.Placement.State as places_state
 use Rattle.m3_base.specs.Placement.Opening as places_opening
-use Rattle.m3_base.specs.Placement.State.{Placement, PlacedActivity}
+use Rattle.m3_base.specs.Placement.State.{Placement}
 use Rattle.m3_base.specs.Lists.EachElement.{Each}
 use Rattle.m3_merge.proofs.MergedIsRun.{each_append}
 use Rattle.m3_merge.proofs.StampBounds.{each_front, each_back}
@@ -18,9 +18,8 @@ use Rattle.m3_model.specs.Kernel.State.{EntryResidency, Is_placed, Is_leaving, I
 use Rattle.m3_model.specs.Config.KnownActivities.{is_named_context}
 use Rattle.m3_model.specs.Tile.Step.{resident_of, act_in}
 use Rattle.m3_model.specs.Kernel.Step.{entry_act, entry_of, placed_at}
-use Rattle.m3_model.specs.Machine.{Machine, tile_at, new_stay, is_there}
+use Rattle.m3_model.specs.Machine.{Machine, tile_at, new_stay}
 use Rattle.m3_model.specs.Abstraction.{all_contexts, sorted_by_act}
-use Rattle.m3_model.specs.Invariant.Distinct.{DistinctActs}
 use Rattle.m3_model.specs.Invariant.Housing.{IsPresent, HasHome}
 use Rattle.m3_model.specs.Invariant.LinkWalk.{placed_on}
 use Rattle.m3_model.specs.Invariant.Scheduling.{is_placed_at, has_home}
@@ -98,7 +97,7 @@ pub record SeatedSoFar (h : Site) (s : State) (ds : List Home) (m : Machine) : T
   pub stays : Each (λ y. resident_of y.act (tile_at y.tile m) ≡ Some (new_stay y.act)) ds
   pub unstayed : (a t : ℕ) → home_in a ds ≡ None → resident_of a (tile_at t m) ≡ None
   pub unready : (a t : ℕ) → home_in a ds ≡ None → list_any (λ b. b == a) (get_or m.kernel.ready t []) ≡ false
-  pub taken : (t : ℕ) → is_there (tile_at t m).current ≡ has_home t ds
+  pub taken : (t : ℕ) → is_some (tile_at t m).current ≡ has_home t ds
   pub current : (t : ℕ) (c : Context) → (tile_at t m).current ≡ Some c → HasHome h t c.act
   pub placed : (t : ℕ) → act_in (tile_at t m).current ≡ placed_on h t m.kernel
   pub filled : (t : ℕ) → how_many (is_placed_at h t) m.kernel.seats ≡ one (has_home t ds)

@@ -25,18 +25,19 @@ use Rattle.m3_base.specs.Placement.Take.{is_here}
 use Rattle.m3_base.specs.Placement.Order.{least_closing}
 use Rattle.m3_base.specs.Lists.EachElement.{Each}
 use Rattle.m3_merge.proofs.MergedIsRun.{each_append}
-use Rattle.m3_model.specs.Config.Site.{Site, tile_of, has_program, tile_for}
+use Rattle.m3_model.specs.Config.Site.{Site, tile_of, has_program}
 use Rattle.m3_model.specs.Parcel.{Heard, Parcel, Data, Save, Saved, Restore, Yield, Closed}
 use Rattle.m3_model.specs.Tile.State.{Resident, Tile}
 use Rattle.m3_model.specs.Kernel.State.{SavedActivity, EntryResidency, Is_placed, Is_leaving, Is_resting, Is_coming, ActivityEntry, Kernel}
 use Rattle.m3_model.specs.LocalStep.{LocalResult, local_result, idle_result, dropped_result, data_out, closed_out, answer_tile}
 use Rattle.m3_model.specs.Config.KnownActivities.{is_named}
 use Rattle.m3_model.specs.Kernel.Step as kernel
-use Rattle.m3_model.specs.Kernel.Step.{Routed, kernel_take, kernel_tend, kernel_close, kernel_order}
+use Rattle.m3_model.specs.Kernel.Step.{Routed, kernel_take, kernel_order}
 use Rattle.m3_model.specs.Tile.Step as tile
-use Rattle.m3_model.specs.Tile.Step.{tile_do, tile_take, resident_of, act_in}
+use Rattle.m3_model.specs.Tile.Step.{tile_take, resident_of, act_in}
 use Rattle.m3_model.specs.Memory.Step.{may_serve, serve_result, memory_take}
 use Rattle.m3_model.specs.Machine.{Part, Kernel_part, Memory_part, Tile_part, part_step}
+use Rattle.m3_refine.proofs.arrival.AnswerAndClosed.{tile_for-low}
 
 abbrev pub AreTiles : List (ℕ × Parcel) → Type 0
 AreTiles out = Each (λ x. x.0 < 16) out
@@ -68,21 +69,17 @@ OrdersTile (Event.Order (Order.Switch t a)) = t < 16
 OrdersTile e = Unit {0}
 
 module _ (h : Site) (low : (a : ℕ) → tile_of h a < 16) where
-  tile_low : (o : Option ℕ) → tile_for h o < 16
-  tile_low None = omega arith
-  tile_low (Some a) = low a
-
   closed_low : (o : Option ℕ) → AreTiles (closed_out o)
   closed_low None = tt
   closed_low (Some g) = (omega arith, tt)
 
   answer_low : (o : Option Packet) → AreTiles (data_out (answer_tile h o) o)
   answer_low None = tt
-  answer_low (Some p) = (tile_low (target p), tt)
+  answer_low (Some p) = (tile_for-low h low (target p), tt)
 
-  new_low : (o : Option Packet) → AreTiles (tile.new_out h o)
+  pub new_low : (o : Option Packet) → AreTiles (tile.new_out h o)
   new_low None = tt
-  new_low (Some p) = (tile_low (target p), tt)
+  new_low (Some p) = (tile_for-low h low (target p), tt)
 
   -- ---- tiles
 

@@ -1,7 +1,7 @@
 -- A step of the machine is a move of its parts over their links.
 use Rattle.std.proofs.Common.{◌≡◌, ℕ, ◌+◌, ◌*◌, ◌<◌, ◌≤◌, Bool, true, false, cond, List, [], ◌∷◌, ◌++◌, Option, Some, None, refl, sym, subst, ◌∙◌, ap, arith, get_or, length, append_assoc}
 use Rattle.std.specs.Prelude.{◌==◌, nat_lt}
-use Rattle.std.proofs.lemmas.List.{append-nil}
+use Rattle.std.proofs.lemmas.List.{append-nil, length-set}
 use Rattle.std.proofs.lemmas.Bool.Decides.{nat_tests}
 use Rattle.m3_base.specs.declared.event.Event.{Event}
 use Rattle.m3_base.specs.declared.event.Made.{Made}
@@ -18,7 +18,6 @@ use Rattle.m3_model.specs.Events.{IsWithin}
 use Rattle.m3_model.specs.Tile.Step.{tile_turn}
 use Rattle.m3_model.specs.LocalMoves.{parcel_of, TakesFrom, Steps, MovesBy, MovesByEntry}
 use Rattle.m3_refine.proofs.theorem.NoProgramMoves.{AreTiles, TameIn, IsNoTurn, OrdersTile, part_tame}
-use Rattle.m3_refine.proofs.abstraction.MoveWithinMachine.{length-set}
 use Rattle.m3_refine.proofs.lists.Update.{get_or-set, same_link}
 
 -- ---- parts
@@ -311,7 +310,7 @@ pub tile_below : (h : Site) → IsSetup h → (a : ℕ) (o : Option Home) → ho
 tile_below h setup a None e = omega arith
 tile_below h setup a (Some y) e = (setup.tiles a y e).1
 
-event_below : (h : Site) → ((a : ℕ) → tile_of h a < 16) → (e : Event) → IsWithin e → tile_for_event h e < 16
+pub event_below : (h : Site) → ((a : ℕ) → tile_of h a < 16) → (e : Event) → IsWithin e → tile_for_event h e < 16
 event_below h low (Event.Do a c) within = low a
 event_below h low (Event.Turn a) within = low a
 event_below h low (Event.Take dest source) within = within.0

@@ -1,6 +1,6 @@
 -- What a step does to the ways: a link is set anew, or the kernel, and the kernel sends packets of its own.
-use Rattle.std.proofs.Common.{◌≡◌, ℕ, zero, suc, ◌+◌, ◌*◌, ◌<◌, ◌≤◌, Bool, true, false, List, [], ◌∷◌, ◌++◌, length, Option, Some, None, refl, sym, subst, ◌∙◌, ap, arith}
-use Rattle.std.specs.Prelude.{if◌then◌else◌, slice_get}
+use Rattle.std.proofs.Common.{◌≡◌, ℕ, ◌+◌, ◌*◌, ◌<◌, ◌≤◌, Bool, true, false, List, [], ◌∷◌, ◌++◌, length, Option, Some, None, refl, sym, subst, ◌∙◌, ap, arith}
+use Rattle.std.specs.Prelude.{if◌then◌else◌}
 use Rattle.std.proofs.lemmas.Bool.Decides.{nat_tests}
 use Rattle.m3_base.specs.declared.ids.FlightId.{FlightId}
 use Rattle.m3_base.specs.declared.packet.Packet.{Packet}
@@ -20,20 +20,20 @@ use Rattle.m3_model.specs.Parcel.{Parcel, Data, Save, Saved, Restore, Yield, Clo
 use Rattle.m3_model.specs.Kernel.State.{ActivityEntry, EntryResidency, Is_placed, Is_leaving, Is_resting, Is_coming, Kernel}
 use Rattle.m3_model.specs.LocalStep.{LocalResult}
 use Rattle.m3_model.specs.Kernel.Step.{entry_act, entry_of, is_placed_entry, with_held, route_to, entry_for, route, kernel_id, own_packet_out, make_with, close_of}
-use Rattle.m3_model.specs.Machine.{Machine, Part, link_at, with_link, with_parcel, with_parcels, rest}
+use Rattle.m3_model.specs.Machine.{Machine, link_at, with_link, with_parcel, with_parcels, rest}
 use Rattle.m3_model.specs.Abstraction.{flat_map}
 use Rattle.m3_model.specs.Invariant.Scheduling.{EntryOk}
 use Rattle.m3_model.specs.Invariant.Structure.{MachineStructure}
 use Rattle.m3_model.specs.Ways.{MayFollow, InstallsFirst, ClosesOneOf, IsOwn, OwnFrom, packets_for, way_by, HasWay, IsOnWay}
 use Rattle.m3_refine.proofs.abstraction.EntriesMatchActors.{AreSeats, are_seats}
-use Rattle.m3_base.proofs.GrantTableLookup.{grant_in-suc as numbered_back}
 use Rattle.m3_refine.proofs.lists.EachElement.{InSome, each_found, each_replaced}
 use Rattle.m3_refine.proofs.abstraction.ReplaceEntry.{seat_key}
-use Rattle.m3_refine.proofs.abstraction.MoveWithinMachine.{length-set}
 use Rattle.m3_refine.proofs.lists.Update.{links_set}
 use Rattle.m3_refine.proofs.ways.WayLists.{first_popped, first_pushed, first_beside, plain_own, plain_behind, plain_before, each_all, closes_more, own_more, closes_for, may_follow}
 use Rattle.m3_refine.proofs.ways.KernelWays.{PlainParcel, AllPlain, WayKernel, held_way, count_changed}
 use Rattle.m3_base.proofs.ListLookups.{length_pushed}
+use Rattle.m3_base.proofs.GrantsByNumber.{grant_past}
+use Rattle.std.proofs.lemmas.List.{length-set}
 
 -- ---- one link is set anew
 
@@ -260,15 +260,6 @@ module _ (h : Site) (low : Tiles h) (m : Machine) (len : length m.links ≡ 256)
 
   -- ---- a grant's Close
 
-  grant_below : (gs : List Grant) (g : ℕ) (x : Grant) → grant_in gs g ≡ Some x → g ≤ length gs
-  grant_below gs zero x e = omega arith
-  grant_below gs (suc i) x e = let z = get_below gs i (sym (numbered_back gs i) ∙ e) in omega (arith, z)
-    where
-      get_below : (ys : List Grant) (i : ℕ) → slice_get ys i ≡ Some x → i < length ys
-      get_below [] i e = absurd (cc)
-      get_below (y ∷ ys) zero e = omega arith
-      get_below (y ∷ ys) (suc i) e = let z = get_below ys i e in omega (arith, z)
-
   module _ (sound : MachineStructure h m) where
     placed_empty : (x : ActivityEntry) (s : EntryResidency) → EntryOk h m.tiles x s → is_placed_entry s ≡ true → x.hold ≡ []
     placed_empty x Is_placed o e = o
@@ -299,6 +290,6 @@ module _ (h : Site) (low : Tiles h) (m : Machine) (len : length m.links ≡ 256)
         let p = Packet.Close (kernel_id m.kernel) (holder x.line) (holder_ep x.line) g in
         let gs = change_grant m.kernel.grants g (λ y. record y { close_sent = true }) in
         let same = count_changed m.kernel.grants g (λ y. record y { close_sent = true }) in
-        let there = grant_below m.kernel.grants g x e in
+        let there = grant_past m.kernel.grants g x e in
         own_sent (m.kernel.next + 1) gs (omega (arith, same)) p (λ q c. may_follow q p (λ i. refl)) (omega (arith, same, there)) (holder x.line) refl (refl, refl, (omega (arith, same, there)))
         (none_held (holder x.line) p refl) (λ held. Said.CloseSent g (kernel_id m.kernel) held)

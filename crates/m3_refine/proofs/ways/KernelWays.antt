@@ -1,6 +1,6 @@
 -- The kernel's local steps over its ways: what is held stays in its order, and what goes out is neither an Install nor a
 -- Close, but for a new grant's Install and a grant's Close.
-use Rattle.std.proofs.Common.{◌≡◌, ℕ, ◌+◌, ◌-◌, ◌<◌, Bool, true, false, List, [], ◌∷◌, ◌++◌, length, Option, Some, None, refl, ◌∙◌, arith}
+use Rattle.std.proofs.Common.{◌≡◌, ℕ, ◌-◌, ◌<◌, Bool, true, false, List, [], ◌∷◌, ◌++◌, length, Option, Some, None, refl, ◌∙◌, arith}
 use Rattle.std.specs.Prelude.{if◌then◌else◌, ◌==◌, ◌&&◌, ◌||◌, not}
 use Rattle.std.specs.List.{list_any}
 use Rattle.m3_base.specs.declared.packet.Packet.{Packet}
@@ -23,9 +23,10 @@ use Rattle.m3_model.specs.Kernel.Step.{entry_act, entry_of, with_entry, with_res
 use Rattle.m3_model.specs.Abstraction.{flat_map}
 use Rattle.m3_model.specs.Ways.{IsPlain, MayFollow, ClosesOneOf, packets_for, HasWay}
 use Rattle.m3_refine.proofs.lists.EachElement.{InSome, each_found, each_replaced}
-use Rattle.m3_refine.proofs.abstraction.MoveWithinMachine.{length-set}
 use Rattle.m3_refine.proofs.ways.PlainPackets.{PlainIf, PlainArrived, fit_plain}
 use Rattle.m3_refine.proofs.ways.WayLists.{each_all, dropped_one, first_held, plain_behind, plain_closes}
+use Rattle.std.proofs.lemmas.List.{length-set}
+use Rattle.m3_base.proofs.GrantsByNumber.{length-closing_where}
 
 -- ---- as many grants as before
 
@@ -36,13 +37,8 @@ count_changed gs g f = by_found (grant_in gs g)
     by_found None = refl
     by_found (Some x) = length-set gs (g - 1) (f x)
 
-count_closing : (bs : List Bool) (gs : List Grant) → length (closing_where bs gs) ≡ length gs
-count_closing [] gs = refl
-count_closing (b ∷ bs) [] = refl
-count_closing (b ∷ bs) (x ∷ gs) = let z = count_closing bs gs in omega (arith, z)
-
 count_revoked : (gs : List Grant) (g : ℕ) → length (after_revoke gs g) ≡ length gs
-count_revoked gs g = count_changed (closing_where (marks_under g 1 [] gs) gs) g (λ x. record x { is_root = true }) ∙ count_closing (marks_under g 1 [] gs) gs
+count_revoked gs g = count_changed (closing_where (marks_under g 1 [] gs) gs) g (λ x. record x { is_root = true }) ∙ length-closing_where (marks_under g 1 [] gs) gs
 
 -- ---- what goes out
 

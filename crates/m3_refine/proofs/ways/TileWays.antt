@@ -1,31 +1,31 @@
 -- What tiles and the memory send is neither an Install nor a Close.
-use Rattle.std.proofs.Common.{◌≡◌, ℕ, ◌<◌, Bool, true, false, List, [], ◌∷◌, length, Option, Some, None, refl, arith}
-use Rattle.std.specs.Prelude.{if◌then◌else◌, ◌==◌, ◌&&◌, not, is_some}
+use Rattle.std.proofs.Common.{◌≡◌, ℕ, ◌<◌, Bool, true, false, List, [], ◌∷◌, length, Option, Some, None, refl, subst, arith}
+use Rattle.std.specs.Prelude.{if◌then◌else◌, ◌==◌}
 use Rattle.m3_base.specs.declared.command.Answer.{Answer}
 use Rattle.m3_base.specs.declared.command.Command.{Command}
 use Rattle.m3_base.specs.declared.event.IdleWhy.{IdleWhy}
 use Rattle.m3_base.specs.declared.event.Made.{Made}
 use Rattle.m3_base.specs.declared.event.Said.{Said}
 use Rattle.m3_base.specs.declared.packet.Packet.{Packet}
-use Rattle.m3_base.specs.Ideal.Context.{Context, endpoint}
+use Rattle.m3_base.specs.Ideal.Context.{Context}
 use Rattle.m3_base.specs.Ideal.Landing.{bytes_at, written_at}
 use Rattle.m3_base.specs.Ideal.Arrival.{Arrival}
 use Rattle.m3_base.specs.Ideal.Issue.{Issued, issue}
 use Rattle.m3_base.specs.Placement.Routing.{target}
 use Rattle.m3_base.specs.Placement.Take.{is_here}
-use Rattle.m3_base.specs.Placement.Turn.{is_repeat}
-use Rattle.m3_base.specs.Ideal.Step.{has_unread}
 use Rattle.m3_merge.proofs.MergedIsRun.{each_append}
-use Rattle.m3_model.specs.Config.Site.{Site, tile_of, tile_for}
+use Rattle.m3_model.specs.Config.Site.{Site, tile_of}
 use Rattle.m3_model.specs.Parcel.{Heard, Parcel, Data, Save, Saved, Restore, Yield, Closed}
 use Rattle.m3_model.specs.Tile.State.{Resident, Tile}
 use Rattle.m3_model.specs.LocalStep.{LocalResult, local_result, idle_result, dropped_result, data_out, closed_out, answer_tile}
-use Rattle.m3_model.specs.Tile.Step.{tile_do, do_at, do_issued, new_out, resident_of, with_current, act_in, arrive_named, take_arrived, take_here, bounced, take_data, is_waiting_resident, has_ended, take_save, after_restore, may_return, take_restore, tile_take, yield_out, yield_result, turn_issued, turn_await, turn_move, turn_quantum, turn_made, is_due, is_waiting, turn_by, turn_at, tile_turn}
+use Rattle.m3_model.specs.Tile.Step.{tile_do, do_at, do_issued, new_out, resident_of, with_current, act_in, arrive_named, take_arrived, take_here, bounced, take_data, is_waiting_resident, has_ended, take_save, after_restore, may_return, take_restore, tile_take, yield_out, tile_turn}
 use Rattle.m3_model.specs.Memory.Step.{may_serve, serve_result, serve, memory_take}
 use Rattle.m3_model.specs.Ways.{IsPlain}
+use Rattle.m3_refine.proofs.events.turn.TurnResults.{HoldsInCases, each_turn}
 use Rattle.m3_refine.proofs.lists.EachElement.{InSome}
 use Rattle.m3_refine.proofs.ways.PlainPackets.{PlainIf, PlainIssued, PlainArrived, issue_plain, named_plain}
 use Rattle.m3_refine.proofs.ways.KernelWays.{PlainParcel, AllPlain, closed_plain}
+use Rattle.m3_refine.proofs.arrival.AnswerAndClosed.{tile_for-low}
 
 abbrev pub SendsPlain : {S : Type 0} → LocalResult S → Type 0
 SendsPlain d = AllPlain d.out
@@ -35,17 +35,13 @@ one_of true x y k l = k
 one_of false x y k l = l
 
 module _ (h : Site) (low : (a : ℕ) → tile_of h a < 16) where
-  for_low : (o : Option ℕ) → tile_for h o < 16
-  for_low None = omega arith
-  for_low (Some a) = low a
-
   new_plain : (o : Option Packet) → PlainIf o → AllPlain (new_out h o)
   new_plain None k = tt
-  new_plain (Some p) k = ((for_low (target p), k), tt)
+  new_plain (Some p) k = ((tile_for-low h low (target p), k), tt)
 
   answer_plain : (o : Option Packet) → PlainIf o → AllPlain (data_out (answer_tile h o) o)
   answer_plain None k = tt
-  answer_plain (Some p) k = ((for_low (target p), k), tt)
+  answer_plain (Some p) k = ((tile_for-low h low (target p), k), tt)
 
   -- ---- commands and turns
 
@@ -70,59 +66,16 @@ module _ (h : Site) (low : (a : ℕ) → tile_of h a < 16) where
       by_sent true = tt
       by_sent false = ((omega arith, tt), tt)
 
-  turn_issued_plain : (t : Tile) (y : Resident) (m : Made) (o : Option Issued) → PlainIssued o → SendsPlain (turn_issued h t y m o)
-  turn_issued_plain t y m None k = tt
-  turn_issued_plain t y m (Some i) k = new_plain i.packet k
-
-  await_plain : (t : Tile) (y : Resident) (ep : ℕ) (b : Bool) → SendsPlain (turn_await t y ep b)
-  await_plain t y ep true = tt
-  await_plain t y ep false = yield_plain (record y { pending = Some ep })
-
-  none_or : {S : Type 0} (b : Bool) (d : LocalResult S) → SendsPlain d → PlainMade (if b then None else Some d)
-  none_or true d k = tt
-  none_or false d k = k
-
-  or_none : {S : Type 0} (b : Bool) (d : LocalResult S) → SendsPlain d → PlainMade (if b then Some d else None)
-  or_none true d k = k
-  or_none false d k = tt
-
-  some_or : {S : Type 0} (b : Bool) (d : LocalResult S) (o : Option (LocalResult S)) → SendsPlain d → PlainMade o → PlainMade (if b then Some d else o)
-  some_or true d o k l = k
-  some_or false d o k l = l
-
-  either_made : {S : Type 0} (b : Bool) (o r : Option (LocalResult S)) → PlainMade o → PlainMade r → PlainMade (if b then o else r)
-  either_made true o r k l = k
-  either_made false o r k l = l
-
-  move_plain : (t : Tile) (x : Context) (y : Resident) (m : Made) → PlainMade (turn_move h t x y m)
-  move_plain t x y (Made.Command c) = none_or (is_some y.pending) (turn_issued h t y (Made.Command c) (issue x c)) (turn_issued_plain t y (Made.Command c) (issue x c) (issue_plain x c))
-  move_plain t x y (Made.Await ep) = or_none (is_repeat y.pending ep) (turn_await t y ep (has_unread (endpoint x ep))) (await_plain t y ep (has_unread (endpoint x ep)))
-  move_plain t x y Made.Quantum = tt
-  move_plain t x y Made.End = none_or (is_some y.pending) (yield_result Made.End Said.Ended t (record y { ended = true })) (yield_plain (record y { ended = true }))
-
-  quantum_plain : (t : Tile) (y : Resident) (m : Made) → PlainMade (turn_quantum t y m)
-  quantum_plain t y Made.Quantum = yield_plain y
-  quantum_plain t y (Made.Command c) = tt
-  quantum_plain t y (Made.Await ep) = tt
-  quantum_plain t y Made.End = tt
-
-  made_plain : (t : Tile) (x : Context) (y : Resident) (o : Option Made) → PlainMade (turn_made h t x y o)
-  made_plain t x y None = tt
-  made_plain t x y (Some m) = either_made (is_due h t y) (turn_quantum t y m) (turn_move h t x y m) (quantum_plain t y m) (move_plain t x y m)
-
-  by_plain : (t : Tile) (x : Context) (made : Option Made) (o : Option Resident) → PlainMade (turn_by h t x made o)
-  by_plain t x made None = tt
-  by_plain t x made (Some y) =
-      let waiting = if y.yield_sent && is_waiting x y then Some (idle_result IdleWhy.Waiting t) else turn_made h t x y made in
-      some_or y.ended (idle_result IdleWhy.Ended t) (if not (length x.flying == 0) then Some (idle_result IdleWhy.Busy t) else waiting) tt
-      (some_or (not (length x.flying == 0)) (idle_result IdleWhy.Busy t) waiting tt (some_or (y.yield_sent && is_waiting x y) (idle_result IdleWhy.Waiting t) (turn_made h t x y made) tt (made_plain t x y made)))
-
-  turn_at_plain : (t : Tile) (a : ℕ) (made : Option Made) (o : Option Context) → PlainMade (turn_at h t a made o)
-  turn_at_plain t a made None = tt
-  turn_at_plain t a made (Some x) = either_made (x.act == a) (turn_by h t x made (resident_of a t)) (Some (idle_result IdleWhy.NotCurrent t)) (by_plain t x made (resident_of a t)) tt
+  turn_cases : (t : Tile) (a : ℕ) → HoldsInCases h t a SendsPlain
+  turn_cases t a = record {
+    idle = λ why e. tt;
+    issued = λ x y c i e f is. new_plain i.packet (subst PlainIssued is (issue_plain x c));
+    awake = λ ep y f. tt;
+    yields = λ made said y z f same e. yield_plain z;
+  }
 
   pub turn_plain : (t : Tile) (a : ℕ) (made : Option Made) → PlainMade (tile_turn h t a made)
-  turn_plain t a made = turn_at_plain t a made t.current
+  turn_plain t a made = each_turn h t a SendsPlain (turn_cases t a) made
 
   -- ---- takes
 

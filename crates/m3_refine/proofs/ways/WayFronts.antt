@@ -5,7 +5,7 @@ use Rattle.std.proofs.lemmas.Bool.{cases_lt}
 use Rattle.std.proofs.lemmas.Bool.Decides.{nat_tests}
 use Rattle.m3_base.specs.declared.ids.FlightId.{FlightId}
 use Rattle.m3_base.specs.declared.packet.Packet.{Packet}
-use Rattle.m3_base.specs.Ideal.Flights.{same_name, name_before, name_of, flight, new_flight}
+use Rattle.m3_base.specs.Ideal.Flights.{same_name, name_before, name_of, flight, new_flight, sorted_by_name}
 use Rattle.m3_base.specs.Placement.Routing.{target}
 use Rattle.m3_base.specs.Placement.Take.{is_here}
 use Rattle.m3_base.specs.Lists.EachElement.{Each}
@@ -16,17 +16,18 @@ use Rattle.m3_model.specs.Kernel.State.{ActivityEntry}
 use Rattle.m3_model.specs.Kernel.Step.{entry_act, entry_of}
 use Rattle.m3_model.specs.Config.KnownActivities.{is_home}
 use Rattle.m3_model.specs.Machine.{Machine, link_at}
-use Rattle.m3_model.specs.Abstraction.{flat_map, flat_links, held_by, packets_in, all_packets, sorted_by_name, ideal_of}
+use Rattle.m3_model.specs.Abstraction.{flat_map, flat_links, held_by, packets_in, all_packets, ideal_of}
 use Rattle.m3_model.specs.Invariant.Scheduling.{HoldOk}
 use Rattle.m3_model.specs.Invariant.Parcels.{ParcelOk}
 use Rattle.m3_model.specs.Invariant.Structure.{MachineStructure}
-use Rattle.m3_model.specs.Ways.{is_install_of, InstallsFirst, IsOwn, OwnFrom, packets_for, way, HasWay, IsOnWay}
+use Rattle.m3_model.specs.Ways.{InstallsFirst, IsOwn, OwnFrom, packets_for, way, HasWay, IsOnWay}
 use Rattle.m3_refine.proofs.abstraction.EntriesMatchActors.{are_seats}
 use Rattle.m3_refine.proofs.lists.EachElement.{InSome, each_found}
 use Rattle.m3_base.specs.Ideal.State.{same_act}
 use Rattle.m3_refine.proofs.arrival.AnswerAndClosed.{named_target}
 use Rattle.m3_refine.proofs.events.take.RouteRefines.{KnownActivity, known_activity}
 use Rattle.m3_refine.proofs.ways.InstallsFirst.{apart_seats}
+use Rattle.m3_base.specs.Ideal.Step.{is_install_of}
 
 -- ---- each link by its tiles
 

@@ -1,16 +1,16 @@
 -- Where a Close is the front of a hold list, no Install of its grant is on its way to the activity: no data for it is on
 -- the link to its home while the kernel has its context.
 use Rattle.std.proofs.Common.{◌≡◌, ℕ, zero, suc, ◌+◌, ◌*◌, Bool, true, false, cond, List, [], ◌∷◌, ◌++◌, get_or, Option, Some, None, refl, sym, subst, ◌∙◌, ap, arith, append_assoc}
-use Rattle.std.specs.Prelude.{◌==◌}
 use Rattle.std.proofs.lemmas.Bool.Decides.{nat_tests}
 use Rattle.m3_base.specs.declared.ids.FlightId.{FlightId}
 use Rattle.m3_base.specs.declared.packet.Packet.{Packet}
 use Rattle.m3_base.specs.Ideal.Flights.{flight}
 use Rattle.m3_base.specs.Ideal.Context.{Context}
-use Rattle.m3_base.specs.Ideal.State.{context_of, same_act}
+use Rattle.m3_base.specs.Ideal.State.{same_act, DistinctActs}
 use Rattle.m3_base.specs.Placement.Routing.{target}
 use Rattle.m3_base.specs.Placement.Take.{is_here}
 use Rattle.m3_base.specs.Lists.EachElement.{Each}
+use Rattle.m3_merge.proofs.StampBounds.{each_front, each_back}
 use Rattle.m3_model.specs.Config.Site.{Site, tile_of}
 use Rattle.m3_model.specs.Parcel.{Parcel, Data, Save, Saved, Restore, Yield, Closed}
 use Rattle.m3_model.specs.Tile.State.{Tile}
@@ -20,33 +20,21 @@ use Rattle.m3_model.specs.Kernel.Step.{entry_act, entry_of}
 use Rattle.m3_model.specs.Config.KnownActivities.{is_home}
 use Rattle.m3_model.specs.Machine.{Machine, empty_tile, tile_at, link_at}
 use Rattle.m3_model.specs.Abstraction.{flat_map, flat_links, option_list, tile_contexts, entry_contexts, residency_contexts, contexts_in, all_contexts, ideal_of}
-use Rattle.m3_model.specs.Invariant.Distinct.{DistinctActs}
 use Rattle.m3_model.specs.Invariant.Scheduling.{HoldOk, EntryOk}
 use Rattle.m3_model.specs.Invariant.LinkWalk.{Off, CurrentAlongLink, placed_on}
 use Rattle.m3_model.specs.Invariant.Structure.{MachineStructure}
-use Rattle.m3_model.specs.Ways.{is_install_of, InstallsFirst, packets_for, IsOnWay}
+use Rattle.m3_model.specs.Ways.{InstallsFirst, packets_for, IsOnWay}
 use Rattle.m3_refine.proofs.arrival.AnswerAndClosed.{home_tile, named_target}
 use Rattle.m3_refine.proofs.lists.Replacement.{around_replaced}
 use Rattle.m3_refine.proofs.events.tend.ApplyHeldPacket.{sits_as, away_of, act_away}
 use Rattle.m3_refine.proofs.abstraction.CurrentAlongLink.{stays_on, front_data, front_save}
 use Rattle.m3_refine.proofs.ways.WayFronts.{its, seat_found, way_there, none_flies}
-use Rattle.m3_refine.proofs.abstraction.MoveContext.{other_act}
+use Rattle.m3_base.specs.Ideal.Step.{is_install_of}
+use Rattle.m3_refine.proofs.abstraction.OtherContexts.{IsOther, before_apart, after_apart, on_link}
 
--- ---- contexts of other activities
-
-abbrev IsOf : ℕ → Context → Type 0
-IsOf a c = (c.act == a) ≡ false
+-- ---- who is current at a tile
 
 module _ (P : Context → Type 0) where
-  each_left : (xs ys : List Context) → Each P (xs ++ ys) → Each P xs
-  each_left [] ys e = tt
-  each_left (x ∷ xs) ys e = (e.0, each_left xs ys e.1)
-
-  each_right : (xs ys : List Context) → Each P (xs ++ ys) → Each P ys
-  each_right [] ys e = e
-  each_right (x ∷ xs) ys e = each_right xs ys e.1
-
-  -- who is current at a tile
   abbrev CurrentIs : Option Context → Type 0
   CurrentIs None = Unit {0}
   CurrentIs (Some c) = P c
@@ -58,28 +46,11 @@ module _ (P : Context → Type 0) where
   current_of : (ts : List Tile) (i : ℕ) (d : Tile) → d.current ≡ None → Each P (flat_map tile_contexts ts) → CurrentIs (get_or ts i d).current
   current_of [] i d n e = subst CurrentIs (sym n) tt
   current_of (t ∷ ts) zero d n e = as_current t.current (flat_map tile_contexts ts) e
-  current_of (t ∷ ts) (suc i) d n e = current_of ts i d n (each_right (option_list t.current) (flat_map tile_contexts ts) e)
-
-  link_of : (ls : List (List Parcel)) (i : ℕ) → Each P (flat_links contexts_in ls) → Each P (flat_map contexts_in (get_or ls i []))
-  link_of [] i e = tt
-  link_of (l ∷ ls) zero e = each_left (flat_map contexts_in l) (flat_links contexts_in ls) e
-  link_of (l ∷ ls) (suc i) e = link_of ls i (each_right (flat_map contexts_in l) (flat_links contexts_in ls) e)
-
-absent_each : (a : ℕ) (ys : List Context) → context_of a ys ≡ None → Each (IsOf a) ys
-absent_each a [] e = tt
-absent_each a (y ∷ ys) e = (grind (arith, nat_tests, e), absent_each a ys (grind (arith, e)))
-
-before_apart : (xs : List Context) (c : Context) (ys : List Context) → DistinctActs (xs ++ c ∷ ys) → Each (IsOf c.act) xs
-before_apart [] c ys a = tt
-before_apart (x ∷ xs) c ys a = (other_act x.act xs c ys a.0, before_apart xs c ys a.1)
-
-after_apart : (xs : List Context) (c : Context) (ys : List Context) → DistinctActs (xs ++ c ∷ ys) → Each (IsOf c.act) ys
-after_apart [] c ys a = absent_each c.act ys a.0
-after_apart (x ∷ xs) c ys a = after_apart xs c ys a.1
+  current_of (t ∷ ts) (suc i) d n e = current_of ts i d n (each_back P (option_list t.current) (flat_map tile_contexts ts) e)
 
 -- ---- the walk meets no data of an activity that is away
 
-no_data : (a : ℕ) (c : Option ℕ) (qs : List Parcel) (p : Option ℕ) → (c ≡ Some a → ⊥) → Each (IsOf a) (flat_map contexts_in qs) → CurrentAlongLink c qs p → flat_map (packets_for a) qs ≡ []
+no_data : (a : ℕ) (c : Option ℕ) (qs : List Parcel) (p : Option ℕ) → (c ≡ Some a → ⊥) → Each (IsOther a) (flat_map contexts_in qs) → CurrentAlongLink c qs p → flat_map (packets_for a) qs ≡ []
 no_data a c [] p f e w = refl
 no_data a c (Data d ∷ qs) p f e w =
     let r = front_data c d qs p w in
@@ -115,14 +86,14 @@ module _ (h : Site) (m : Machine) (sound : MachineStructure h m) (x : ActivityEn
   key : y.context.act ≡ x.act
   key = act_away h m.tiles x b y (subst (λ s. EntryOk h m.tiles x s) sits (sound.seated.seats x.act x there).0)
 
-  others : Each (IsOf y.context.act) T × Each (IsOf y.context.act) L
+  others : Each (IsOther y.context.act) T × Each (IsOther y.context.act) L
   others =
       let r = around_replaced entry_act same_act entry_contexts x x m.kernel.seats there in
       let mid : flat_map entry_contexts m.kernel.seats ≡ r.front ++ (y.context ∷ r.back) = r.here ∙ ap (λ s. r.front ++ (residency_contexts s ++ r.back)) sits ∙ ap (λ l. r.front ++ (l ++ r.back)) (away_of b y) in
       let whole : all_contexts m ≡ (T ++ r.front) ++ (y.context ∷ (r.back ++ L)) = ap (λ l. T ++ (l ++ L)) mid ∙ ap (λ l. T ++ l) (append_assoc r.front (y.context ∷ r.back) L) ∙ sym (append_assoc T r.front (y.context ∷ (r.back ++ L))) in
       let apart = subst DistinctActs whole sound.acts in (
-        each_left (IsOf y.context.act) T r.front (before_apart (T ++ r.front) y.context (r.back ++ L) apart),
-        each_right (IsOf y.context.act) r.back L (after_apart (T ++ r.front) y.context (r.back ++ L) apart),
+        each_front (IsOther y.context.act) T r.front (before_apart (T ++ r.front) y.context (r.back ++ L) apart),
+        each_back (IsOther y.context.act) r.back L (after_apart (T ++ r.front) y.context (r.back ++ L) apart),
       )
 
   -- no data for it is on the link to its home
@@ -130,11 +101,11 @@ module _ (h : Site) (m : Machine) (sound : MachineStructure h m) (x : ActivityEn
   none_linked_away =
       let t = tile_of h x.act in
       let at_home = home_tile h x.act sound.setup known in
-      let o = subst (λ a. Each (IsOf a) T × Each (IsOf a) L) key others in
+      let o = subst (λ a. Each (IsOther a) T × Each (IsOther a) L) key others in
       no_data x.act (act_in (tile_at t m).current) (link_at 0 t m) (placed_on h t m.kernel)
-      (not_here (tile_at t m).current (current_of (IsOf x.act) m.tiles t (empty_tile t) refl o.0)) (link_of (IsOf x.act) m.links (16 * 0 + t) o.1) (sound.seated.walks t at_home.0 at_home.1)
+      (not_here (tile_at t m).current (current_of (IsOther x.act) m.tiles t (empty_tile t) refl o.0)) (on_link (IsOther x.act) m.links (16 * 0 + t) o.1) (sound.seated.walks t at_home.0 at_home.1)
     where
-      not_here : (o : Option Context) → CurrentIs (IsOf x.act) o → act_in o ≡ Some x.act → ⊥
+      not_here : (o : Option Context) → CurrentIs (IsOther x.act) o → act_in o ≡ Some x.act → ⊥
       not_here None k e = cc
       not_here (Some c) k e = let n : c.act ≡ x.act = cc in absurd (grind (arith, nat_tests, n, k))
 

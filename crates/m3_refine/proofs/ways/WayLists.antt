@@ -9,7 +9,8 @@ use Rattle.m3_merge.proofs.MergedIsRun.{each_append}
 use Rattle.m3_model.specs.Config.Site.{Site}
 use Rattle.m3_model.specs.Parcel.{Parcel, Data, Save, Saved, Restore, Yield, Closed}
 use Rattle.m3_model.specs.Abstraction.{flat_map}
-use Rattle.m3_model.specs.Ways.{IsPlain, is_install_of, MayFollow, InstallsFirst, ClosesOneOf, IsOwn, OwnFrom, packets_for}
+use Rattle.m3_model.specs.Ways.{IsPlain, MayFollow, InstallsFirst, ClosesOneOf, IsOwn, OwnFrom, packets_for}
+use Rattle.m3_base.specs.Ideal.Step.{is_install_of}
 
 -- ---- one more, one less
 

@@ -8,6 +8,7 @@ use Rattle.m3_base.specs.Ideal.GrantRules.{form}
 use Rattle.m3_base.specs.Ideal.Opening.{state_with_grant, with_line, with_lines, opening}
 use Rattle.m3_base.specs.Lists.EachElement.{Each}
 use Rattle.m3_merge.proofs.MergedIsRun.{each_append, each_map}
+use Rattle.m3_base.proofs.KernelNumber.{kernel_next-with_lines}
 use Rattle.m3_model.specs.Config.Site.{Home, Site, tile_of}
 use Rattle.m3_model.specs.Parcel.{Parcel}
 use Rattle.m3_model.specs.Kernel.State.{ActivityEntry}
@@ -61,27 +62,8 @@ opens_way h s = record {
 
 -- ---- the kernel's next number
 
-granted_next : (s : State) (line : GrantLine) (o : Option Fresh) → (state_with_grant s line o).kernel_next ≡ s.kernel_next
-granted_next s line None = refl
-granted_next s line (Some f) = refl
-
-pub line_next : (s : State) (l : SetupLine) → (with_line s l).kernel_next ≡ s.kernel_next
-line_next s (SetupLine.Act a t) = refl
-line_next s (SetupLine.Grant line) = granted_next s line (form (length s.grants + 1) line (parent_in s.grants (parent_of line)))
-line_next s (SetupLine.Quantum n) = refl
-line_next s (SetupLine.Files g) = refl
-line_next s (SetupLine.Item a c) = refl
-line_next s (SetupLine.AwaitItem a ep) = refl
-line_next s (SetupLine.Writer a b c d e f g) = refl
-line_next s (SetupLine.Reader a b c d e f) = refl
-line_next s (SetupLine.Boxed a b c) = refl
-
-pub lines_next : (s : State) (ls : List SetupLine) → (with_lines s ls).kernel_next ≡ s.kernel_next
-lines_next s [] = refl
-lines_next s (l ∷ ls) = lines_next (with_line s l) ls ∙ line_next s l
-
 -- it is 1, where the journal has no entry
 pub opens_low_kernel : (memory : ℕ) (programs : List ℕ) (lines : List SetupLine) → HasLowKernel 0 (opened_machine memory programs lines)
 opens_low_kernel memory programs lines =
-    let e = next_stays (opening memory lines) _ (site_of memory programs lines).homes ∙ lines_next _ lines in
+    let e = next_stays (opening memory lines) _ (site_of memory programs lines).homes ∙ kernel_next-with_lines _ lines in
     subst (λ n. n ≤ 0 + 1) (sym e) (omega arith)

@@ -28,12 +28,12 @@ use Rattle.m3_model.specs.Events.{IsWithin}
 use Rattle.m3_model.specs.Ways.{IsPlain, IsOwn, OwnFrom, IsOnWay}
 use Rattle.m3_refine.proofs.lists.EachElement.{InSome}
 use Rattle.m3_refine.proofs.arrival.AnswerAndClosed.{home_tile, named_target}
-use Rattle.m3_refine.proofs.abstraction.MoveWithinMachine.{length-set}
 use Rattle.m3_refine.proofs.theorem.StepIsLocalMove.{tile_below}
 use Rattle.m3_refine.proofs.events.take.KernelTakesSavedStep.{data_fits}
 use Rattle.m3_refine.proofs.ways.KernelWays.{PlainParcel, AllPlain, WayKernel, take_way, tend_way, switch_way, revoke_way}
 use Rattle.m3_refine.proofs.ways.TileWays.{PlainMade, StaysOwn, do_plain, turn_plain, take_plain, memory_plain}
 use Rattle.m3_refine.proofs.ways.InstallsFirst.{Tiles, way_taken, way_all_sent, way_same, Leaves, unchanged, form_number, way_made, way_closed}
+use Rattle.std.proofs.lemmas.List.{length-set}
 
 module _ (h : Site) (m : Machine) (sound : MachineStructure h m) where
   low : Tiles h

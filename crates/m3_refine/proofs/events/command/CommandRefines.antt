@@ -2,7 +2,7 @@
 use Rattle.std.proofs.Common.{◌≡◌, ℕ, ◌<◌, ◌≤◌, Bool, true, false, cond, List, [], ◌∷◌, Some, None, refl, sym, subst, ◌∙◌, ap, arith, length, Option, inr}
 use Rattle.std.specs.Prelude.{◌==◌, not, ◌&&◌}
 use Rattle.std.proofs.lemmas.Bool.Decides.{nat_tests}
-use Rattle.std.proofs.lemmas.List.{get_or-map, set-get_or}
+use Rattle.std.proofs.lemmas.List.{set-get_or}
 use Rattle.m3_base.specs.declared.ids.FlightId.{FlightId}
 use Rattle.m3_base.specs.declared.command.Command.{Command}
 use Rattle.m3_base.specs.declared.packet.Packet.{Packet}
@@ -11,29 +11,28 @@ use Rattle.m3_base.specs.declared.event.Made.{Made}
 use Rattle.m3_base.specs.declared.event.Said.{Said}
 use Rattle.m3_base.specs.declared.event.IdleWhy.{IdleWhy}
 use Rattle.m3_base.specs.declared.step.Step.{Step}
-use Rattle.m3_base.specs.Ideal.Flights.{name_of, same_name, flight, new_flight}
+use Rattle.m3_base.specs.Ideal.Flights.{name_of, same_name, flight, new_flight, sorted_by_name}
 use Rattle.m3_base.specs.Ideal.Context.{Context}
 use Rattle.m3_base.specs.Ideal.Issue.{Issued, issue, next_id, is_busy, flies_always}
-use Rattle.m3_base.specs.Ideal.State.{State, context_of, put_context, is_number}
+use Rattle.m3_base.specs.Ideal.State.{State, context_of, put_context}
 use Rattle.m3_base.specs.Ideal.Step.{At_issue, ideal_run, on_from, with_packet, issue_in, issued_in}
 use Rattle.m3_base.specs.Journal.Entry.{shown_told}
 use Rattle.m3_base.specs.Placement.Landing as places_landing
 use Rattle.m3_base.specs.Placement.Routing as places_routing
 use Rattle.m3_base.specs.Placement.State as places_state
-use Rattle.m3_base.specs.Placement.State.{Placement, is_current}
+use Rattle.m3_base.specs.Placement.State.{is_current}
 use Rattle.m3_base.specs.Placement.Step.{placement_step}
 use Rattle.m3_base.specs.Placement.Routing.{target}
 use Rattle.m3_base.specs.Placement.Command.{next_id_of, push_new, command_by, busy_with}
-use Rattle.m3_base.specs.Placement.Landing.{said_or_nothing}
 use Rattle.m3_base.proofs.FlightOrder.{find-new}
 use Rattle.m3_model.specs.Config.Site.{Site, tile_of, tile_for}
 use Rattle.m3_model.specs.Parcel.{Data}
 use Rattle.m3_model.specs.Tile.State.{Tile}
 use Rattle.m3_model.specs.LocalStep.{idle_result}
 use Rattle.m3_model.specs.Config.KnownActivities.{is_home, is_named, is_named_context}
-use Rattle.m3_model.specs.Tile.Step.{act_in, resident_of, with_current, do_at, do_issued, new_out}
-use Rattle.m3_model.specs.Machine.{Machine, Kernel_part, Memory_part, Tile_part, empty_tile, tile_at, with_part, with_parcels, machine_step, done_by, of_tile, part_step}
-use Rattle.m3_model.specs.Abstraction.{all_packets, sorted_by_name, ideal_of, current_act, placement_of}
+use Rattle.m3_model.specs.Tile.Step.{resident_of, with_current, do_at, do_issued, new_out}
+use Rattle.m3_model.specs.Machine.{Machine, Tile_part, empty_tile, tile_at, with_part, with_parcels, machine_step, done_by, of_tile, part_step}
+use Rattle.m3_model.specs.Abstraction.{all_packets, ideal_of, placement_of}
 use Rattle.m3_model.specs.Invariant.Parcels.{HasDestination}
 use Rattle.m3_model.specs.Invariant.IdealFacts.{IdealFacts}
 use Rattle.m3_model.specs.Invariant.Structure.{MachineStructure}
@@ -43,6 +42,7 @@ use Rattle.m3_refine.proofs.abstraction.ChangeContext.{alike-itself}
 use Rattle.m3_refine.proofs.abstraction.ChangeCurrentContext.{running_state, running_places, running_sound}
 use Rattle.m3_refine.proofs.arrival.AnswerAndClosed.{home_tile, home_is, named_target, Emits}
 use Rattle.m3_refine.proofs.arrival.CurrentContext.{current_found, current_each}
+use Rattle.m3_refine.proofs.events.HomeTile.{home_range, home_in_tiles, home_part, home_current}
 use Rattle.m3_refine.proofs.events.command.Issue.{NewOk, IssuesOk, IssuedOk, issue_ok, WaitsIf, issue_waits}
 
 -- ---- a name that no flight has
@@ -95,35 +95,22 @@ module _ (h : Site) (t : ℕ) (low : 1 ≤ t) (ht : t < 16) where
 
 -- ---- the event
 
-module _ (h : Site) (m : Machine) (a : ℕ) (x : Command) (made : Option Made) (sound : MachineStructure h m) (hyp : IdealFacts m) (known : is_home h a ≡ true) where
+module _ (h : Site) (m : Machine) (a : ℕ) (x : Command) (made : Option Made) (sound : MachineStructure h m) (known : is_home h a ≡ true) where
   abbrev t : ℕ
   t = tile_of h a
 
   lives : (2 ≤ tile_of h a) × (tile_of h a < 16)
-  lives = home_tile h a sound.setup known
+  lives = home_range h m a sound known
 
   in_tiles : tile_of h a < length m.tiles
-  in_tiles = subst (λ n. tile_of h a < n) (sym sound.tiles) lives.1
-
-  no_kernel : (tile_of h a == 0) ≡ false
-  no_kernel = let l = lives.0 in grind (arith, nat_tests, l)
-
-  no_memory : (tile_of h a == 1) ≡ false
-  no_memory = let l = lives.0 in grind (arith, nat_tests, l)
+  in_tiles = home_in_tiles h m a sound known
 
   do_step : (o : Option Context) → (tile_at t m).current ≡ o → machine_step h m (Event.Do a x) made ≡ done_by t m (Some (of_tile (do_at h (tile_at t m) a x o)))
   do_step o e =
-      ap (λ b. done_by t m (part_step h (cond b (Kernel_part m.kernel) (cond (t == 1) (Memory_part m.memory) (Tile_part (tile_at t m)))) (Event.Do a x) made None)) no_kernel
-      ∙ ap (λ b. done_by t m (part_step h (cond b (Memory_part m.memory) (Tile_part (tile_at t m))) (Event.Do a x) made None)) no_memory
+      ap (λ p. done_by t m (part_step h p (Event.Do a x) made None)) (home_part h m a sound known)
       ∙ ap (λ z. done_by t m (Some (of_tile (do_at h (tile_at t m) a x z)))) e
 
-  -- the places know who is current
-  current_in : (o : Option Context) → (tile_at t m).current ≡ o → is_current a (placement_of h m) ≡ is_number a (act_in o)
-  current_in o e =
-      ap (λ n. is_number a (places_state.current_of n (placement_of h m))) (home_is h m a)
-      ∙ ap (is_number a) (get_or-map current_act m.tiles t (empty_tile t) None in_tiles ∙ ap act_in e)
-
-  abbrev done : Option places_landing.PlacementResult
+  abbrev pub done : Option places_landing.PlacementResult
   done = command_by (ideal_of m) (placement_of h m) a (ideal_run (Step.Issue a x ∷ []) (ideal_of m))
 
   -- not current
@@ -137,16 +124,16 @@ module _ (h : Site) (m : Machine) (a : ℕ) (x : Command) (made : Option Made) (
       ∙ ap (λ z. cond z (places_landing.idle_outcome IdleWhy.Busy (ideal_of m) (placement_of h m)) done) f
 
   module _ (c : Context) (e : (tile_at (tile_of h a) m).current ≡ Some c) (same : c.act ≡ a) where
-    found : context_of a (ideal_of m).contexts ≡ Some c
+    pub found : context_of a (ideal_of m).contexts ≡ Some c
     found = subst (λ n. context_of n (ideal_of m).contexts ≡ Some c) same (current_found m t in_tiles c e sound)
 
     is_now : is_current a (placement_of h m) ≡ true
-    is_now = current_in (Some c) e ∙ (let z : (c.act == a) ≡ true = grind (arith, nat_tests, same) in z)
+    is_now = home_current h m a sound known (Some c) e ∙ (let z : (c.act == a) ≡ true = grind (arith, nat_tests, same) in z)
 
     abbrev tile_after : Issued → Tile
     tile_after i = with_current (Some i.context) (tile_at (tile_of h a) m)
 
-    abbrev machine_after : Issued → Machine
+    abbrev pub machine_after : Issued → Machine
     machine_after i = with_parcels (tile_of h a) (new_out h i.packet) (with_part (tile_of h a) (Tile_part (with_current (Some i.context) (tile_at (tile_of h a) m))) m)
 
     issued_step : (o : Option Issued) → issue c x ≡ o → machine_step h m (Event.Do a x) made ≡ done_by t m (Some (of_tile (do_issued h (tile_at t m) o)))
@@ -158,8 +145,8 @@ module _ (h : Site) (m : Machine) (a : ℕ) (x : Command) (made : Option Made) (
     busy_is : (b : Bool) → flies_always x && is_busy c ≡ b → busy_with x (context_of a (ideal_of m).contexts) ≡ b
     busy_is b f = ap (busy_with x) found ∙ f
 
-    module _ (i : Issued) (is : issue c x ≡ Some i) (ok : IssuesOk h c i) where
-      abbrev changed : Machine
+    module _ (i : Issued) (is : issue c x ≡ Some i) (ok : IssuesOk h c i) (free_at : flight (next_id c) (ideal_of m).flights ≡ None) where
+      abbrev pub changed : Machine
       changed = with_part (tile_of h a) (Tile_part (with_current (Some i.context) (tile_at (tile_of h a) m))) m
 
       changed_state : ideal_of changed ≡ record (ideal_of m) { contexts = put_context i.context (ideal_of m).contexts }
@@ -168,10 +155,7 @@ module _ (h : Site) (m : Machine) (a : ℕ) (x : Command) (made : Option Made) (
       changed_sound : MachineStructure h changed
       changed_sound = running_sound h m t lives.1 sound (tile_after i) c i.context e refl ok.0 refl (λ b. alike-itself (resident_of b (tile_at t m))) ok.1
 
-      free_at : flight (next_id c) (ideal_of m).flights ≡ None
-      free_at = hyp.fresh a c found
-
-      emitted : Emits h changed (machine_after i) (with_packet i.packet (ideal_of changed).flights) (ideal_of changed).grants (push_new (next_id c) t i.packet (placement_of h changed))
+      pub emitted : Emits h changed (machine_after i) (with_packet i.packet (ideal_of changed).flights) (ideal_of changed).grants (push_new (next_id c) t i.packet (placement_of h changed))
       emitted = emit_new h t (let l = lives.0 in omega arith) lives.1 changed changed_sound c i.packet ok.2 (absent_back (next_id c) (all_packets m) free_at)
 
       abbrev next : State
@@ -196,7 +180,7 @@ module _ (h : Site) (m : Machine) (a : ℕ) (x : Command) (made : Option Made) (
       ran : ideal_run (Step.Issue a x ∷ []) (ideal_of m) ≡ Some (record { words = At_issue i.told ∷ []; state = next })
       ran = ap (λ o. on_from (ideal_run []) (issue_in (ideal_of m) o x)) found ∙ ap (λ o. on_from (ideal_run []) (issued_in (ideal_of m) o)) is
 
-      do_done : done ≡ Some (record { said = shown_told i.told; restore = None; state = ideal_of (machine_after i); places = placement_of h (machine_after i) })
+      pub do_done : done ≡ Some (record { said = shown_told i.told; restore = None; state = ideal_of (machine_after i); places = placement_of h (machine_after i) })
       do_done =
           let told = shown_told i.told in
           let p = placement_of h m in
@@ -212,24 +196,24 @@ module _ (h : Site) (m : Machine) (a : ℕ) (x : Command) (made : Option Made) (
           subst (Refines h m (Event.Do a x) made) (sym (issued_step (Some i) is))
           (here is_now false (busy_is false quiet) ∙ do_done, emitted.sound)
 
-    do_current : (o : Option Issued) → issue c x ≡ o → IssuedOk h c o → WaitsIf (flies_always x && is_busy c) o → Refines h m (Event.Do a x) made (machine_step h m (Event.Do a x) made)
-    do_current None i ok w = idle_refines h m (Event.Do a x) made sound t IdleWhy.Busy (issued_step None i) (here is_now true (busy_is true w))
-    do_current (Some z) i ok w = do_issues z i ok w
+    do_current : IdealFacts m → (o : Option Issued) → issue c x ≡ o → IssuedOk h c o → WaitsIf (flies_always x && is_busy c) o → Refines h m (Event.Do a x) made (machine_step h m (Event.Do a x) made)
+    do_current hyp None i ok w = idle_refines h m (Event.Do a x) made sound t IdleWhy.Busy (issued_step None i) (here is_now true (busy_is true w))
+    do_current hyp (Some z) i ok w = do_issues z i ok (hyp.fresh a c found) w
 
-  do_by : (o : Option Context) → (tile_at t m).current ≡ o → Refines h m (Event.Do a x) made (machine_step h m (Event.Do a x) made)
-  do_by None e = idle_refines h m (Event.Do a x) made sound t IdleWhy.NotCurrent (do_step None e) (away (is_current a (placement_of h m)) refl (current_in None e))
-  do_by (Some c) e = by_test (c.act == a) refl
+  do_by : IdealFacts m → (o : Option Context) → (tile_at t m).current ≡ o → Refines h m (Event.Do a x) made (machine_step h m (Event.Do a x) made)
+  do_by hyp None e = idle_refines h m (Event.Do a x) made sound t IdleWhy.NotCurrent (do_step None e) (away (is_current a (placement_of h m)) refl (home_current h m a sound known None e))
+  do_by hyp (Some c) e = by_test (c.act == a) refl
     where
       by_test : (b : Bool) → (c.act == a) ≡ b → Refines h m (Event.Do a x) made (machine_step h m (Event.Do a x) made)
       by_test false d =
           idle_refines h m (Event.Do a x) made sound t IdleWhy.NotCurrent
           (do_step (Some c) e ∙ ap (λ b. done_by t m (Some (of_tile (cond b (do_issued h (tile_at t m) (issue c x)) (idle_result IdleWhy.NotCurrent (tile_at t m)))))) d)
-          (away (is_current a (placement_of h m)) refl (current_in (Some c) e ∙ d))
+          (away (is_current a (placement_of h m)) refl (home_current h m a sound known (Some c) e ∙ d))
       by_test true d =
           let same : c.act ≡ a = grind (arith, nat_tests, d) in
           let named = current_each m t in_tiles c e (λ z. is_named_context h z ≡ true) sound.named in
           let its : is_home h c.act ≡ true = ap (is_home h) same ∙ known in
-          do_current c e same (issue c x) refl (issue_ok h c its named x) (issue_waits c x)
+          do_current c e same hyp (issue c x) refl (issue_ok h c its named x) (issue_waits c x)
 
-  pub do_refines : Refines h m (Event.Do a x) made (machine_step h m (Event.Do a x) made)
-  do_refines = do_by (tile_at t m).current refl
+pub do_refines : (h : Site) (m : Machine) (a : ℕ) (x : Command) (made : Option Made) → MachineStructure h m → IdealFacts m → is_home h a ≡ true → Refines h m (Event.Do a x) made (machine_step h m (Event.Do a x) made)
+do_refines h m a x made sound hyp known = do_by h m a x made sound known hyp (tile_at (tile_of h a) m).current refl

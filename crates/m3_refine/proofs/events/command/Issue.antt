@@ -13,6 +13,7 @@ use Rattle.m3_base.specs.Ideal.Issue.{Flies, Issued, first_of, unless_refusal, n
 use Rattle.m3_model.specs.Config.Site.{Site}
 use Rattle.m3_model.specs.Config.KnownActivities.{is_home, is_named, is_from_home, is_fetched_from_home, names_at, is_named_context}
 use Rattle.m3_refine.proofs.arrival.KeepsKnownActivities.{all_get, all_set, fetched_more, fetched_less, fetched_marked}
+use Rattle.std.proofs.lemmas.Bool.{and_from}
 
 -- a new packet has the next name, and goes to the memory or to an activity
 abbrev pub NewOk : Site → Context → Option Packet → Type 0
@@ -31,9 +32,6 @@ module _ (h : Site) (c : Context) (known : is_home h c.act ≡ true) (named : is
   unless_ok : (why : Option Refusal) (i : Issued) → IssuesOk h c i → IssuesOk h c (unless_refusal why c i)
   unless_ok None i k = k
   unless_ok (Some x) i k = (refl, named, tt)
-
-  at_endpoint : (ep : ℕ) → names_at h (endpoint c ep) ≡ true
-  at_endpoint ep = all_get h c.endpoints ep named
 
   set_ok : (ep : ℕ) (e : Endpoint) → names_at h e ≡ true → list_all (names_at h) (set c.endpoints ep e) ≡ true
   set_ok ep e n = all_set h c.endpoints ep e named n
@@ -56,15 +54,12 @@ module _ (h : Site) (c : Context) (known : is_home h c.act ≡ true) (named : is
   parts : (r : ReceiveRecord) → names_at h (Receives r) ≡ true → (list_all (is_from_home h) r.unread ≡ true) × (list_all (is_fetched_from_home h) r.fetched ≡ true)
   parts r n = (grind (arith, n), grind (arith, n))
 
-  both : (a b : Bool) → a ≡ true → b ≡ true → (a && b) ≡ true
-  both a b p q = grind (arith, p, q)
-
   reply_to_ok : (ep token : ℕ) (payload : List ℕ) (r : ReceiveRecord) → names_at h (Receives r) ≡ true → (o : Option Message) → unmarked_message (fetched_at token r.fetched) ≡ o → IssuesOk h c (reply_to c ep token payload r o)
   reply_to_ok ep token payload r n None e = (refl, named, tt)
   reply_to_ok ep token payload r n (Some m) e =
       let k = parts r n in
       let f : is_from_home h m ≡ true = fetched_from token r.fetched m k.1 e in
-      (refl, set_ok ep (Receives (with_mark_at true r token)) (both (list_all (is_from_home h) r.unread) (list_all (is_fetched_from_home h) (with_mark true token r.fetched)) k.0 (fetched_marked h true token r.fetched k.1)), (refl, grind (arith, f, known)))
+      (refl, set_ok ep (Receives (with_mark_at true r token)) (and_from (list_all (is_from_home h) r.unread) (list_all (is_fetched_from_home h) (with_mark true token r.fetched)) k.0 (fetched_marked h true token r.fetched k.1)), (refl, grind (arith, f, known)))
 
   reply_ok : (ep token : ℕ) (payload : List ℕ) (e : Endpoint) → names_at h e ≡ true → IssuesOk h c (reply c ep token payload e)
   reply_ok ep token payload Free n = (refl, named, tt)
@@ -80,7 +75,7 @@ module _ (h : Site) (c : Context) (known : is_home h c.act ≡ true) (named : is
       let first : is_from_home h m ≡ true = grind (arith, a) in
       let more : list_all (is_from_home h) ms ≡ true = grind (arith, a) in
       let f : Fetched = record { token = r.next_token; marked = false; message = m } in
-      (refl, set_ok ep (Receives (with_fetched r m ms)) (both (list_all (is_from_home h) ms) (list_all (is_fetched_from_home h) (r.fetched ++ f ∷ [])) more (fetched_more h r.fetched f k.1 first)), tt)
+      (refl, set_ok ep (Receives (with_fetched r m ms)) (and_from (list_all (is_from_home h) ms) (list_all (is_fetched_from_home h) (r.fetched ++ f ∷ [])) more (fetched_more h r.fetched f k.1 first)), tt)
 
   fetch_ok : (ep : ℕ) (e : Endpoint) → names_at h e ≡ true → IssuesOk h c (fetch c ep e)
   fetch_ok ep Free n = (refl, named, tt)
@@ -90,7 +85,7 @@ module _ (h : Site) (c : Context) (known : is_home h c.act ≡ true) (named : is
       unless_ok (first_of ((r.closing, Refusal.Revoked) ∷ [])) (fetch_from c ep r r.unread) (fetch_from_ok ep r n r.unread (parts r n).0)
 
   acknowledged_ok : (ep token : ℕ) (r : ReceiveRecord) → names_at h (Receives r) ≡ true → (m : Message) → is_from_home h m ≡ true → (b : Bool) → IssuesOk h c (after_acknowledge c ep r token m b)
-  acknowledged_ok ep token r n m f b = by_wish b (set_ok ep (Receives (without_fetched r token)) (both (list_all (is_from_home h) r.unread) (list_all (is_fetched_from_home h) (without_token token r.fetched)) (parts r n).0 (fetched_less h token r.fetched (parts r n).1)))
+  acknowledged_ok ep token r n m f b = by_wish b (set_ok ep (Receives (without_fetched r token)) (and_from (list_all (is_from_home h) r.unread) (list_all (is_fetched_from_home h) (without_token token r.fetched)) (parts r n).0 (fetched_less h token r.fetched (parts r n).1)))
     where
       by_wish : (b : Bool) → list_all (names_at h) (set c.endpoints ep (Receives (without_fetched r token))) ≡ true → IssuesOk h c (after_acknowledge c ep r token m b)
       by_wish true x = (refl, x, (refl, grind (arith, f, known)))
@@ -126,10 +121,10 @@ module _ (h : Site) (c : Context) (known : is_home h c.act ≡ true) (named : is
   busy_ok false i k = k
 
   pub issue_ok : (x : Command) → IssuedOk h c (issue c x)
-  issue_ok (Command.Send ep payload to) = busy_ok (is_busy c) (send c ep payload to (endpoint c ep)) (send_ok ep payload to (endpoint c ep) (at_endpoint ep))
-  issue_ok (Command.Reply ep token payload) = busy_ok (is_busy c) (reply c ep token payload (endpoint c ep)) (reply_ok ep token payload (endpoint c ep) (at_endpoint ep))
-  issue_ok (Command.Fetch ep) = fetch_ok ep (endpoint c ep) (at_endpoint ep)
-  issue_ok (Command.Acknowledge ep token) = acknowledge_ok ep token (endpoint c ep) (at_endpoint ep)
+  issue_ok (Command.Send ep payload to) = busy_ok (is_busy c) (send c ep payload to (endpoint c ep)) (send_ok ep payload to (endpoint c ep) (all_get h c.endpoints ep named))
+  issue_ok (Command.Reply ep token payload) = busy_ok (is_busy c) (reply c ep token payload (endpoint c ep)) (reply_ok ep token payload (endpoint c ep) (all_get h c.endpoints ep named))
+  issue_ok (Command.Fetch ep) = fetch_ok ep (endpoint c ep) (all_get h c.endpoints ep named)
+  issue_ok (Command.Acknowledge ep token) = acknowledge_ok ep token (endpoint c ep) (all_get h c.endpoints ep named)
   issue_ok (Command.Read ep off len) = busy_ok (is_busy c) (read c ep off len (endpoint c ep)) (read_ok ep off len (endpoint c ep))
   issue_ok (Command.Write ep off payload) = busy_ok (is_busy c) (write c ep off payload (endpoint c ep)) (write_ok ep off payload (endpoint c ep))
 

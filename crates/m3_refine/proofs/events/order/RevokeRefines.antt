@@ -8,7 +8,7 @@ use Rattle.m3_base.specs.declared.event.Made.{Made}
 use Rattle.m3_base.specs.declared.event.No.{No}
 use Rattle.m3_base.specs.declared.event.Said.{Said}
 use Rattle.m3_base.specs.Ideal.State.{Grant, State, grant_in, holder, is_done, is_live, parent_of}
-use Rattle.m3_base.specs.Ideal.GrantRules.{set_some, revoke_refusal, marks_under, is_marked, to_closing, closing_where, with_root_closing, after_revoke}
+use Rattle.m3_base.specs.Ideal.GrantRules.{set_some, revoke_refusal, marks_under, is_marked, to_closing, closing_where, with_root_closing, after_revoke, to_root}
 use Rattle.m3_base.specs.Ideal.State as ideal
 use Rattle.m3_base.specs.Ideal.Flights.{flight}
 use Rattle.m3_base.specs.Ideal.GrantRules.{kernel_id as kernel_id'}
@@ -19,19 +19,17 @@ use Rattle.m3_base.specs.Placement.Landing as places_landing
 use Rattle.m3_base.specs.Placement.Routing as places_routing
 use Rattle.m3_base.specs.Placement.Step.{placement_step}
 use Rattle.m3_base.specs.Lists.EachElement.{Each}
-use Rattle.m3_merge.proofs.MergedIsRun.{each_map}
 use Rattle.m3_model.specs.Config.Site.{Site}
 use Rattle.m3_model.specs.Config.KnownActivities.{is_home}
 use Rattle.m3_model.specs.Kernel.Step.{is_under_close, revoke_with}
-use Rattle.m3_model.specs.Machine.{Machine, link_at, machine_step, done_by, of_kernel}
+use Rattle.m3_model.specs.Machine.{Machine, machine_step, done_by, of_kernel}
 use Rattle.m3_model.specs.Abstraction.{all_closed, is_in, closed_if, closed_from, ideal_of, placement_of}
 use Rattle.m3_model.specs.Invariant.Structure.{CloseWasSent, MachineStructure}
-use Rattle.m3_model.specs.Invariant.Parcels.{ParcelOk}
 use Rattle.m3_model.specs.Refinement.{Refines}
-use Rattle.m3_refine.proofs.abstraction.ReplaceEntry.{parcel_kernel}
+use Rattle.m3_refine.proofs.abstraction.ChangeGrants.{regranted_sound}
 use Rattle.m3_refine.proofs.abstraction.ClosedGrants.{numbered}
-use Rattle.m3_base.proofs.GrantTableLookup.{grant_in-suc as numbered_back}
 use Rattle.m3_refine.proofs.events.take.KernelTakesClosed.{get_closed}
+use Rattle.m3_base.proofs.GrantsByNumber.{grant_in-suc as numbered_back}
 
 -- ---- marks and closed grants
 
@@ -59,20 +57,17 @@ closing_same xs n [] gs = refl
 closing_same xs n (b ∷ bs) [] = refl
 closing_same xs n (b ∷ bs) (x ∷ gs) = λ k. closing_one b (is_in xs n) x k ∷ closing_same xs (n + 1) bs gs k
 
-abbrev roots : Grant → Grant
-roots y = record y { is_root = true }
-
-roots_one : (b : Bool) (x : Grant) → closed_if b (roots x) ≡ roots (closed_if b x)
+roots_one : (b : Bool) (x : Grant) → closed_if b (to_root x) ≡ to_root (closed_if b x)
 roots_one true x = refl
 roots_one false x = refl
 
-roots_place : (xs : List ℕ) (n i : ℕ) (gs : List Grant) (x : Grant) → slice_get gs i ≡ Some x → closed_from n xs (set gs i (roots x)) ≡ set (closed_from n xs gs) i (roots (closed_if (is_in xs (n + i)) x))
+roots_place : (xs : List ℕ) (n i : ℕ) (gs : List Grant) (x : Grant) → slice_get gs i ≡ Some x → closed_from n xs (set gs i (to_root x)) ≡ set (closed_from n xs gs) i (to_root (closed_if (is_in xs (n + i)) x))
 roots_place xs n i [] x e = refl
-roots_place xs n zero (y ∷ gs) x e = λ k. (roots_one (is_in xs n) x ∙ ap (λ j. roots (closed_if (is_in xs j) x)) (let z : n ≡ n + 0 = omega arith in z)) k ∷ closed_from (n + 1) xs gs
+roots_place xs n zero (y ∷ gs) x e = λ k. (roots_one (is_in xs n) x ∙ ap (λ j. to_root (closed_if (is_in xs j) x)) (let z : n ≡ n + 0 = omega arith in z)) k ∷ closed_from (n + 1) xs gs
 roots_place xs n (suc i) (y ∷ gs) x e =
-    λ k. closed_if (is_in xs n) y ∷ (roots_place xs (n + 1) i gs x e ∙ ap (λ j. set (closed_from (n + 1) xs gs) i (roots (closed_if (is_in xs j) x))) (let z : n + 1 + i ≡ n + suc i = omega arith in z)) k
+    λ k. closed_if (is_in xs n) y ∷ (roots_place xs (n + 1) i gs x e ∙ ap (λ j. set (closed_from (n + 1) xs gs) i (to_root (closed_if (is_in xs j) x))) (let z : n + 1 + i ≡ n + suc i = omega arith in z)) k
 
-get_none : (xs : List ℕ) (n i : ℕ) (gs : List Grant) → slice_get gs i ≡ None → slice_get (closed_from n xs gs) i ≡ None
+pub get_none : (xs : List ℕ) (n i : ℕ) (gs : List Grant) → slice_get gs i ≡ None → slice_get (closed_from n xs gs) i ≡ None
 get_none xs n i [] e = refl
 get_none xs n zero (x ∷ gs) e = absurd (cc)
 get_none xs n (suc i) (x ∷ gs) e = get_none xs (n + 1) i gs e
@@ -83,7 +78,7 @@ at_place xs gs i None e = get_none xs 1 i gs e
 at_place xs gs i (Some x) e = refl
 
 rooted_same : (xs : List ℕ) (gs : List Grant) (g : ℕ) → closed_from 1 xs (with_root_closing gs g) ≡ with_root_closing (closed_from 1 xs gs) g
-rooted_same xs gs zero = ap (λ o. closed_from 1 xs (set_some gs zero roots o)) (zero_none gs) ∙ sym (ap (set_some (closed_from 1 xs gs) zero roots) (zero_none (closed_from 1 xs gs)))
+rooted_same xs gs zero = ap (λ o. closed_from 1 xs (set_some gs zero to_root o)) (zero_none gs) ∙ sym (ap (set_some (closed_from 1 xs gs) zero to_root) (zero_none (closed_from 1 xs gs)))
   where
     zero_none : (gs : List Grant) → grant_in gs zero ≡ None
     zero_none gs = grind (arith, nat_tests)
@@ -94,14 +89,14 @@ rooted_same xs gs (suc i) = by_grant (slice_get gs i) refl
 
     by_grant : (o : Option Grant) → slice_get gs i ≡ o → closed_from 1 xs (with_root_closing gs (suc i)) ≡ with_root_closing (closed_from 1 xs gs) (suc i)
     by_grant None e =
-        ap (λ o. closed_from 1 xs (set_some gs (suc i) roots o)) (numbered_back gs i ∙ e)
-        ∙ sym (ap (set_some (closed_from 1 xs gs) (suc i) roots) (numbered_back (closed_from 1 xs gs) i ∙ get_none xs 1 i gs e))
+        ap (λ o. closed_from 1 xs (set_some gs (suc i) to_root o)) (numbered_back gs i ∙ e)
+        ∙ sym (ap (set_some (closed_from 1 xs gs) (suc i) to_root) (numbered_back (closed_from 1 xs gs) i ∙ get_none xs 1 i gs e))
     by_grant (Some x) e =
-        ap (λ o. closed_from 1 xs (set_some gs (suc i) roots o)) (numbered_back gs i ∙ e)
-        ∙ ap (λ j. closed_from 1 xs (set gs j (roots x))) less
+        ap (λ o. closed_from 1 xs (set_some gs (suc i) to_root o)) (numbered_back gs i ∙ e)
+        ∙ ap (λ j. closed_from 1 xs (set gs j (to_root x))) less
         ∙ roots_place xs 1 i gs x e
-        ∙ ap (λ j. set (closed_from 1 xs gs) j (roots (closed_if (is_in xs (1 + i)) x))) (sym less)
-        ∙ sym (ap (set_some (closed_from 1 xs gs) (suc i) roots) (numbered_back (closed_from 1 xs gs) i ∙ get_closed xs 1 i gs x e))
+        ∙ ap (λ j. set (closed_from 1 xs gs) j (to_root (closed_if (is_in xs (1 + i)) x))) (sym less)
+        ∙ sym (ap (set_some (closed_from 1 xs gs) (suc i) to_root) (numbered_back (closed_from 1 xs gs) i ∙ get_closed xs 1 i gs x e))
 
 revoked_same : (xs : List ℕ) (gs : List Grant) (g : ℕ) → closed_from 1 xs (after_revoke gs g) ≡ after_revoke (closed_from 1 xs gs) g
 revoked_same xs gs g =
@@ -138,7 +133,7 @@ kept_closing (b ∷ bs) (x ∷ gs) = (by_test b (is_live x.standing) refl, kept_
     by_test true false e = record { line = refl; sent = refl; done = refl }
     by_test false d e = record { line = refl; sent = refl; done = refl }
 
-kept_set : (xs ys : List Grant) (i : ℕ) (y : Grant) → AreKept xs ys → slice_get ys i ≡ Some y → AreKept xs (set ys i (roots y))
+kept_set : (xs ys : List Grant) (i : ℕ) (y : Grant) → AreKept xs ys → slice_get ys i ≡ Some y → AreKept xs (set ys i (to_root y))
 kept_set [] [] i y k e = tt
 kept_set (x ∷ xs) (z ∷ ys) zero y k e = let q : z ≡ y = cc in let f = subst (Keeps x) q k.0 in (record { line = f.line; sent = f.sent; done = f.done }, k.1)
 kept_set (x ∷ xs) (z ∷ ys) (suc i) y k e = (k.0, kept_set xs ys i y k.1 e)
@@ -148,11 +143,11 @@ kept_set (x ∷ xs) [] i z k e = absurd k
 kept_rooted : (xs ys : List Grant) (g : ℕ) → AreKept xs ys → AreKept xs (with_root_closing ys g)
 kept_rooted xs ys g k = by_grant (grant_in ys g) refl
   where
-    by_grant : (o : Option Grant) → grant_in ys g ≡ o → AreKept xs (set_some ys g roots o)
+    by_grant : (o : Option Grant) → grant_in ys g ≡ o → AreKept xs (set_some ys g to_root o)
     by_grant None e = k
     by_grant (Some y) e =
         let n = numbered ys g y e in
-        subst (λ i. AreKept xs (set ys i (roots y))) (let z = n.1 in let w : n.0 ≡ g - 1 = omega arith in w) (kept_set xs ys n.0 y k n.2)
+        subst (λ i. AreKept xs (set ys i (to_root y))) (let z = n.1 in let w : n.0 ≡ g - 1 = omega arith in w) (kept_set xs ys n.0 y k n.2)
 
 kept_each : (h : Site) (xs ys : List Grant) → AreKept xs ys → Each (λ x. is_home h (holder x.line) ≡ true) xs → Each (λ x. is_home h (holder x.line) ≡ true) ys
 kept_each h [] [] k e = tt
@@ -220,29 +215,7 @@ module _ (h : Site) (m : Machine) (sound : MachineStructure h m) (g : ℕ) (made
   shut' (suc k) i = subst CloseWasSent (sym (numbered_back (after_revoke G g) k)) (kept_get G (after_revoke G g) k kept (subst CloseWasSent (numbered_back G k) (sound.shut (suc k) i)))
 
   revoke_sound : MachineStructure h n
-  revoke_sound =
-      record {
-        setup = sound.setup;
-        tiles = sound.tiles;
-        links = sound.links;
-        acts = sound.acts;
-        known = sound.known;
-        named = sound.named;
-        names = sound.names;
-        housed = record { seats = sound.housed.seats; tiles = sound.housed.tiles; stays = sound.housed.stays; current = sound.housed.current };
-        parcels = λ a b ha hb. each_map (ParcelOk h m.kernel m.tiles a b) (ParcelOk h n.kernel m.tiles a b) (parcel_kernel h m.kernel n.kernel m.tiles (λ c k. k) a b) (link_at a b m) (sound.parcels a b ha hb);
-        seated = record {
-          seats = sound.seated.seats;
-          filled = sound.seated.filled;
-          leaving = sound.seated.leaving;
-          departing = sound.seated.departing;
-          walks = sound.seated.walks;
-          orderly = sound.seated.orderly;
-        };
-        closed = sound.closed;
-        shut = shut';
-        holders = kept_each h G (after_revoke G g) kept sound.holders;
-      }
+  revoke_sound = regranted_sound h m sound m.kernel.next (after_revoke G g) shut' (kept_each h G (after_revoke G g) kept sound.holders)
 
   state_next : ideal_of n ≡ record (ideal_of m) { grants = after_revoke (ideal_of m).grants g }
   state_next = (λ k. record (ideal_of m) { grants = revoked_same (all_closed m) G g k })

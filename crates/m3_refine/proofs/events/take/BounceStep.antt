@@ -6,11 +6,10 @@ use Rattle.m3_base.specs.declared.ids.FlightId.{FlightId}
 use Rattle.m3_base.specs.declared.packet.Packet.{Packet}
 use Rattle.m3_base.specs.declared.event.Event.{Event}
 use Rattle.m3_base.specs.declared.event.Said.{Said}
-use Rattle.m3_base.specs.Ideal.Flights.{name_of, same_name, flight, new_flight}
+use Rattle.m3_base.specs.Ideal.Flights.{name_of, same_name, flight, new_flight, sorted_by_name}
 use Rattle.m3_base.specs.Placement.State as places_state
 use Rattle.m3_base.specs.Placement.Take as places_take
 use Rattle.m3_base.specs.Placement.Landing as places_landing
-use Rattle.m3_base.specs.Placement.State.{Placement}
 use Rattle.m3_base.specs.Placement.Step.{placement_step}
 use Rattle.m3_base.specs.Placement.Routing.{target, target_of}
 use Rattle.m3_base.specs.Placement.Take.{is_here}
@@ -21,12 +20,12 @@ use Rattle.m3_model.specs.Parcel.{Parcel, Data}
 use Rattle.m3_model.specs.Tile.Step.{resident_of, tile_take, take_here, bounced}
 use Rattle.m3_model.specs.Kernel.Step.{entry_of}
 use Rattle.m3_model.specs.Machine.{Machine, Kernel_part, Memory_part, Tile_part, empty_tile, tile_at, link_at, with_link, with_part, with_parcels, machine_step, done_by, part_step, part_at, front, rest, of_tile}
-use Rattle.m3_model.specs.Abstraction.{flat_map, flat_links, held_by, packets_in, all_packets, sorted_by_name, ideal_of, link_token, actor_by, current_act, placement_of}
-use Rattle.m3_model.specs.Invariant.Distinct.{DistinctNames}
+use Rattle.m3_model.specs.Abstraction.{flat_map, flat_links, held_by, packets_in, all_packets, ideal_of, link_token, actor_by, current_act, placement_of}
 use Rattle.m3_refine.proofs.lists.Insertion.{Inserts, inserts_left, pop_one}
 use Rattle.m3_refine.proofs.abstraction.MoveWithinMachine.{by_name-inserts}
 use Rattle.m3_refine.proofs.abstraction.MoveContext.{name_inserts, bounces_at}
 use Rattle.m3_refine.proofs.abstraction.FindActor.{moved_tokens}
+use Rattle.m3_base.specs.Ideal.FlightNames.{Distinct}
 
 -- ---- a packet, in the ideal state
 
@@ -61,10 +60,10 @@ module _ (h : Site) (m : Machine) (t from : ℕ) (ht : t < length m.tiles) (hi :
       ∙ ap (λ b. done_by t (with_link from t qs m) (Some (of_tile (cond b (take_here h (tile_at t m) p (tile_at t m).current) (bounced (tile_at t m) p (target p)))))) away
       ∙ ap (λ o. done_by t (with_link from t qs m) (Some (of_tile (bounced (tile_at t m) p o)))) aim
 
-  pub bounces : (p : Packet) (qs : List Parcel) → link_at from t m ≡ Data p ∷ qs → is_here (target p) (current_act (tile_at t m)) ≡ false → DistinctNames (all_packets m)
+  pub bounces : (p : Packet) (qs : List Parcel) → link_at from t m ≡ Data p ∷ qs → is_here (target p) (current_act (tile_at t m)) ≡ false → (a : ℕ) → target p ≡ Some a → Distinct (all_packets m)
       → placement_step (ideal_of m) (placement_of h m) (Event.Take t from) None
       ≡ Some (record { said = Said.Bounced (name_of p); restore = None; state = ideal_of (after_bounce p qs); places = placement_of h (after_bounce p qs) })
-  bounces p qs g away apart =
+  bounces p qs g away a aim apart =
       let s = ideal_of m in
       let id = name_of p in
       let q = places_state.with_link from t (map link_token qs) (placement_of h m) in
@@ -91,7 +90,8 @@ module _ (h : Site) (m : Machine) (t from : ℕ) (ht : t < length m.tiles) (hi :
       } in
       ap (λ l. places_take.take s (placement_of h m) t from l) link
       ∙ ap (λ b. cond b (places_take.take_at_kernel s q (places_state.Data id)) (places_take.take_at_tile s q t (places_state.Data id))) t0
-      ∙ ap (λ b. cond (b || is_here (target_of (flight id s.flights)) (places_state.current_of t q)) (places_take.land_here t q (places_landing.landing_result s id)) (places_landing.step_outcome (Said.Bounced id) s (places_state.with_token t 0 (places_state.Data id) q))) t1
-      ∙ ap (λ b. cond b (places_take.land_here t q (places_landing.landing_result s id)) (places_landing.step_outcome (Said.Bounced id) s (places_state.with_token t 0 (places_state.Data id) q))) elsewhere
+      ∙ ap (λ b. cond (b || is_here (target_of (flight id s.flights)) (places_state.current_of t q)) (places_take.land_here t q (places_landing.landing_result s id)) (places_take.bounced s q t id (target_of (flight id s.flights)))) t1
+      ∙ ap (λ b. cond b (places_take.land_here t q (places_landing.landing_result s id)) (places_take.bounced s q t id (target_of (flight id s.flights)))) elsewhere
+      ∙ ap (places_take.bounced s q t id) (ap target_of flies ∙ aim)
       ∙ ap (λ r. places_landing.step_outcome (Said.Bounced id) s r) go
       ∙ ap (λ r. places_landing.step_outcome (Said.Bounced id) r (placement_of h (after_bounce p qs))) (sym (bounces_at m t from ht hi hj p qs g apart))

@@ -8,7 +8,6 @@ use Rattle.m3_base.specs.declared.event.Said.{Said}
 use Rattle.m3_base.specs.declared.event.IdleWhy.{IdleWhy}
 use Rattle.m3_base.specs.Placement.State as places_state
 use Rattle.m3_base.specs.Placement.Take as places_take
-use Rattle.m3_base.specs.Placement.Step.{placement_step}
 use Rattle.m3_model.specs.Config.Site.{Site}
 use Rattle.m3_model.specs.LocalStep.{idle_result}
 use Rattle.m3_model.specs.Machine.{Machine, Part, Kernel_part, Memory_part, Tile_part, empty_tile, tile_at, link_at, with_link, with_part, part_at, part_step, machine_step, done_by, front, rest, MachineResult}

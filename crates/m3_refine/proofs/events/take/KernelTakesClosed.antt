@@ -6,7 +6,7 @@ use Rattle.std.proofs.lemmas.List.{map-set}
 use Rattle.m3_base.specs.declared.event.Event.{Event}
 use Rattle.m3_base.specs.declared.event.Said.{Said}
 use Rattle.m3_base.specs.declared.step.Step.{Step}
-use Rattle.m3_base.specs.Ideal.State.{Grant, State, context_of, grant_in, holder, is_done}
+use Rattle.m3_base.specs.Ideal.State.{Grant, State, context_of, grant_in, holder, DistinctActs}
 use Rattle.m3_base.specs.Ideal.State as ideal
 use Rattle.m3_base.specs.Ideal.GrantRules.{change_grant, set_some}
 use Rattle.m3_base.specs.Ideal.Step.{Finishes, ideal_run, on_from, done_in}
@@ -14,7 +14,6 @@ use Rattle.m3_base.specs.Journal.Entry.{said_of}
 use Rattle.m3_base.specs.Placement.State as places_state
 use Rattle.m3_base.specs.Placement.Take as places_take
 use Rattle.m3_base.specs.Placement.Landing as places_landing
-use Rattle.m3_base.specs.Placement.Step.{placement_step}
 use Rattle.m3_base.specs.Placement.Landing.{said_or_nothing}
 use Rattle.m3_base.specs.Lists.EachElement.{Each}
 use Rattle.m3_merge.proofs.MergedIsRun.{each_map}
@@ -25,8 +24,8 @@ use Rattle.m3_model.specs.LocalStep.{dropped_result}
 use Rattle.m3_model.specs.Config.KnownActivities.{is_home, is_named_context}
 use Rattle.m3_model.specs.Kernel.Step.{is_under_close, done_grant, take_closed}
 use Rattle.m3_model.specs.Machine.{Machine, tile_at, link_at, with_link, machine_step, done_by, of_kernel}
-use Rattle.m3_model.specs.Abstraction.{flat_map, tile_contexts, entry_contexts, held_by, contexts_in, packets_in, closed_in, all_contexts, all_packets, all_closed, is_in, sorted_by_act, sorted_by_name, closed_if, closed_from, ideal_of, link_token, current_act, placement_of}
-use Rattle.m3_model.specs.Invariant.Distinct.{DistinctActs, DistinctNames, DistinctClosed}
+use Rattle.m3_model.specs.Abstraction.{flat_map, tile_contexts, entry_contexts, held_by, contexts_in, packets_in, closed_in, all_contexts, all_packets, all_closed, is_in, sorted_by_act, closed_if, closed_from, ideal_of, link_token, current_act, placement_of}
+use Rattle.m3_model.specs.Invariant.Distinct.{DistinctClosed}
 use Rattle.m3_model.specs.Invariant.Housing.{IsPresent}
 use Rattle.m3_model.specs.Invariant.Structure.{CloseWasSent, MachineStructure}
 use Rattle.m3_model.specs.Invariant.Parcels.{ParcelOk}
@@ -38,8 +37,10 @@ use Rattle.m3_refine.proofs.abstraction.FindActor.{tokens}
 use Rattle.m3_refine.proofs.lists.Update.{is_link, links_set}
 use Rattle.m3_refine.proofs.lists.PerLink.{pop_length, pop_each, pop_leavings, pop_orderly}
 use Rattle.m3_refine.proofs.abstraction.ClosedGrants.{in_inserts, closed_later, numbered}
-use Rattle.m3_base.proofs.GrantTableLookup.{grant_in-suc as numbered_back}
 use Rattle.m3_refine.proofs.events.take.KernelTakesDataOrYield.{kernel_step, link_is}
+use Rattle.m3_base.specs.Ideal.Flights.{sorted_by_name}
+use Rattle.m3_base.specs.Ideal.FlightNames.{Distinct}
+use Rattle.m3_base.proofs.GrantsByNumber.{grant_in-suc as numbered_back}
 
 -- ---- one Closed fewer
 
@@ -219,7 +220,7 @@ module _ (h : Site) (m : Machine) (from : ℕ) (hf : from < 16) (sound : Machine
         acts = subst DistinctActs (sym contexts_same) sound.acts;
         known = λ a e. subst (λ l. IsPresent (context_of a l)) (sym contexts_same) (sound.known a e);
         named = subst (Each (λ c. is_named_context h c ≡ true)) (sym contexts_same) sound.named;
-        names = subst DistinctNames (sym packets_same) sound.names;
+        names = subst Distinct (sym packets_same) sound.names;
         housed = record { seats = sound.housed.seats; tiles = sound.housed.tiles; stays = sound.housed.stays; current = sound.housed.current };
         parcels = λ a b ha hb. each_map (ParcelOk h m.kernel m.tiles a b) (ParcelOk h finished.kernel m.tiles a b) (parcel_kernel h m.kernel finished.kernel m.tiles (λ c k. k) a b) (link_at a b left)
             (pop_each m.links from 0 hf zero_low sound.links (Closed g) qs front (ParcelOk h m.kernel m.tiles) sound.parcels a b ha hb);

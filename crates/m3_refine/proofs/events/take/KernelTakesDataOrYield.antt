@@ -6,13 +6,12 @@ use Rattle.m3_base.specs.declared.packet.Packet.{Packet}
 use Rattle.m3_base.specs.declared.event.Event.{Event}
 use Rattle.m3_base.specs.declared.event.Said.{Said}
 use Rattle.m3_base.specs.Lists.Counting.{one}
-use Rattle.m3_base.specs.Ideal.Flights.{name_of, new_flight}
-use Rattle.m3_base.specs.Ideal.State.{State, context_of}
+use Rattle.m3_base.specs.Ideal.Flights.{name_of, new_flight, sorted_by_name}
+use Rattle.m3_base.specs.Ideal.State.{State, context_of, DistinctActs}
 use Rattle.m3_base.specs.Placement.State as places_state
 use Rattle.m3_base.specs.Placement.Take as places_take
 use Rattle.m3_base.specs.Placement.Routing as places_routing
 use Rattle.m3_base.specs.Placement.Landing as places_landing
-use Rattle.m3_base.specs.Placement.Step.{placement_step}
 use Rattle.m3_base.specs.Placement.Routing.{target, target_of}
 use Rattle.m3_base.specs.Lists.EachElement.{Each}
 use Rattle.m3_merge.proofs.MergedIsRun.{each_map}
@@ -24,8 +23,8 @@ use Rattle.m3_model.specs.LocalStep.{local_result, dropped_result}
 use Rattle.m3_model.specs.Config.KnownActivities.{is_named, is_named_context}
 use Rattle.m3_model.specs.Kernel.Step.{entry_of, is_placed_entry, is_leaving_entry, with_yielded, route, take_routed, routing_outcome, target_or, take_yield, kernel_take, Routed}
 use Rattle.m3_model.specs.Machine.{Machine, Kernel_part, tile_at, link_at, with_link, with_part, machine_step, done_by, part_step, front, rest, of_kernel}
-use Rattle.m3_model.specs.Abstraction.{flat_map, tile_contexts, entry_contexts, held_by, contexts_in, packets_in, closed_in, all_contexts, all_packets, all_closed, is_in, sorted_by_act, sorted_by_name, closed_from, ideal_of, link_token, current_act, placement_of}
-use Rattle.m3_model.specs.Invariant.Distinct.{DistinctActs, DistinctNames, DistinctClosed}
+use Rattle.m3_model.specs.Abstraction.{flat_map, tile_contexts, entry_contexts, held_by, contexts_in, packets_in, closed_in, all_contexts, all_packets, all_closed, is_in, sorted_by_act, closed_from, ideal_of, link_token, current_act, placement_of}
+use Rattle.m3_model.specs.Invariant.Distinct.{DistinctClosed}
 use Rattle.m3_model.specs.Invariant.Housing.{IsPresent}
 use Rattle.m3_model.specs.Invariant.Parcels.{is_here_entry, ParcelOk, HasDestination}
 use Rattle.m3_model.specs.Invariant.LinkWalk.{CurrentAlongLink, placed_on}
@@ -39,6 +38,7 @@ use Rattle.m3_refine.proofs.lists.PerLink.{pop_length, pop_front, pop_each, pop_
 use Rattle.m3_refine.proofs.abstraction.PopParcel.{popped_absent, popped_flights, popped_flies, popped_state, popped_places, popped_ok, popped_sound}
 use Rattle.m3_refine.proofs.arrival.AnswerAndClosed.{named_target, home_is}
 use Rattle.m3_refine.proofs.events.take.RouteRefines.{KnownActivity, known_activity, Routes, route_is, routed_by}
+use Rattle.m3_base.specs.Ideal.FlightNames.{Distinct}
 
 module _ (h : Site) (m : Machine) (from : ℕ) (hf : from < 16) (sound : MachineStructure h m) where
   pub zero_low : 0 < 16
@@ -163,7 +163,7 @@ module _ (h : Site) (m : Machine) (from : ℕ) (hf : from < 16) (sound : Machine
           acts = subst DistinctActs (sym contexts_same) sound.acts;
           known = λ a e. subst (λ l. IsPresent (context_of a l)) (sym contexts_same) (sound.known a e);
           named = subst (Each (λ c. is_named_context h c ≡ true)) (sym contexts_same) sound.named;
-          names = subst DistinctNames (sym packets_same) sound.names;
+          names = subst Distinct (sym packets_same) sound.names;
           housed = record { seats = sound.housed.seats; tiles = sound.housed.tiles; stays = sound.housed.stays; current = sound.housed.current };
           parcels = pop_each m.links from 0 hf zero_low sound.links q qs g (ParcelOk h m.kernel m.tiles) sound.parcels;
           seated = record {

@@ -13,7 +13,6 @@ use Rattle.m3_base.specs.Ideal.State.{same_act}
 use Rattle.m3_base.specs.Placement.State as places_state
 use Rattle.m3_base.specs.Placement.Take as places_take
 use Rattle.m3_base.specs.Placement.State.{Placement, PlacedActivity, with_member}
-use Rattle.m3_base.specs.Placement.Step.{placement_step}
 use Rattle.m3_base.specs.Lists.EachElement.{Each}
 use Rattle.m3_merge.proofs.MergedIsRun.{each_map}
 use Rattle.m3_model.specs.Config.Site.{Home, Site, home_of, tile_of, has_program, home_has_program}
@@ -25,25 +24,26 @@ use Rattle.m3_model.specs.Tile.Step.{resident_of}
 use Rattle.m3_model.specs.Kernel.Step.{entry_act, entry_of, with_residency, residency_of_saved, join_ready, is_placed_entry, is_leaving_entry, is_coming_entry, is_leaving_at, take_saved, then_restore}
 use Rattle.m3_model.specs.Machine.{Machine, tile_at, link_at, with_link, with_parcels, machine_step, done_by, of_kernel}
 use Rattle.m3_model.specs.Abstraction.{flat_map, flat_links, tile_contexts, entry_contexts, residency_contexts, held_by, contexts_in, packets_in, closed_in, all_contexts, all_packets, all_closed, is_in, ideal_of, link_token, actor_in, actor_by, current_act, placement_of}
-use Rattle.m3_model.specs.Invariant.Distinct.{DistinctActs, DistinctNames, DistinctClosed}
+use Rattle.m3_model.specs.Invariant.Distinct.{DistinctClosed}
 use Rattle.m3_model.specs.Invariant.Housing.{resident_at}
 use Rattle.m3_model.specs.Invariant.Parcels.{EndedFlagIs, is_here_entry, ParcelOk, YieldsBeforeSaved, no_yield}
 use Rattle.m3_model.specs.Invariant.LinkWalk.{placed_on, CurrentAlongLink}
-use Rattle.m3_model.specs.Invariant.Scheduling.{is_placed_at, is_coming_at, is_leaving_of, EntryOk, HoldOk, saves_in_flight}
+use Rattle.m3_model.specs.Invariant.Scheduling.{is_placed_at, is_coming_at, is_leaving_of, EntryOk, HoldOk, saves_in_flight, EntriesOk}
 use Rattle.m3_model.specs.Invariant.Structure.{MachineStructure}
 use Rattle.m3_model.specs.Refinement.{Refines}
 use Rattle.m3_refine.proofs.events.take.RouteStep.{itself}
 use Rattle.m3_refine.proofs.lists.Insertion.{Inserts, inserts_left, inserts_right, pop_none, pop_one}
 use Rattle.m3_refine.proofs.lists.Replacement.{around_replaced}
-use Rattle.m3_refine.proofs.abstraction.MoveContext.{seats_at}
+use Rattle.m3_refine.proofs.abstraction.MoveContext.{seats_at, StaysIdeal}
 use Rattle.m3_refine.proofs.abstraction.FindActor.{tokens, find_actor}
 use Rattle.m3_refine.proofs.lists.Update.{is_link, links_set, links_either}
 use Rattle.m3_refine.proofs.lists.PerLink.{pop_length, pop_front, pop_leavings, pop_orderly, moves_each, moves_known}
-use Rattle.m3_refine.proofs.abstraction.EntriesMatchActors.{order_replaced, seat_tile}
+use Rattle.m3_refine.proofs.abstraction.EntriesMatchActors.{order_replaced, seat_tile, IsEntryOf, seat_entry}
 use Rattle.m3_refine.proofs.abstraction.ReplaceEntry.{seat_then, seat_now, seat_counts, placed_still, actors_then}
 use Rattle.m3_refine.proofs.events.take.RouteRefines.{KnownActivity, known_activity}
 use Rattle.m3_refine.proofs.events.take.KernelTakesDataOrYield.{kernel_step, link_is}
 use Rattle.m3_refine.proofs.events.take.RestoreGoesOut.{Restores, then_restores, next_one, next_same}
+use Rattle.m3_base.specs.Ideal.FlightNames.{Distinct}
 
 leaving_is : (o : Option ActivityEntry) → 1 ≤ one (is_leaving_of o) → (x : ActivityEntry) × (o ≡ Some x) × (x.seating ≡ Is_leaving)
 leaving_is None e = absurd (omega arith)
@@ -59,11 +59,11 @@ leaving_is (Some x) e = by_seating x.seating refl e
 abbrev pub ready_then : Bool → ℕ → ℕ → List (List ℕ) → List (List ℕ)
 ready_then b t a ready = cond b (set ready t (with_member a (get_or ready t []))) ready
 
-ready_kernel : (b : Bool) (t a : ℕ) (k : Kernel) → join_ready b t a k ≡ record k { ready = ready_then b t a k.ready }
+pub ready_kernel : (b : Bool) (t a : ℕ) (k : Kernel) → join_ready b t a k ≡ record k { ready = ready_then b t a k.ready }
 ready_kernel true t a k = refl
 ready_kernel false t a k = refl
 
-ready_places : (b : Bool) (t a : ℕ) (p : Placement) → places_state.join_ready b t a p ≡ record p { ready = ready_then b t a p.ready }
+pub ready_places : (b : Bool) (t a : ℕ) (p : Placement) → places_state.join_ready b t a p ≡ record p { ready = ready_then b t a p.ready }
 ready_places true t a p = refl
 ready_places false t a p = refl
 
@@ -108,8 +108,8 @@ module _ (h : Site) (m : Machine) (from : ℕ) (hf : from < 16) (sound : Machine
   act_is : its.seat.act ≡ c.act
   act_is = its.its.act ∙ its.key
 
-  there : keyed.find entry_act same_act its.seat.act m.kernel.seats ≡ Some its.seat
-  there = ap (λ n. keyed.find entry_act same_act n m.kernel.seats) its.its.act ∙ its.its.seat
+  there : IsEntryOf m.kernel its.seat
+  there = seat_entry h m.kernel its.seat its.home its.its
 
   abbrev resting : ActivityEntry
   resting = record its.seat { seating = residency_of_saved c ended }
@@ -123,7 +123,7 @@ module _ (h : Site) (m : Machine) (from : ℕ) (hf : from < 16) (sound : Machine
   abbrev rested : Machine
   rested = record (with_link from 0 qs m) { kernel = kernel_then }
 
-  both : (ideal_of rested ≡ ideal_of m) × DistinctActs (all_contexts rested)
+  both : StaysIdeal m rested
   both = seats_at m (16 * from + 0) in_links c waiting ended qs its.seat resting kernel_then g there leaving refl refl refl refl refl sound.acts
 
   moves : (base : List Context) × Inserts c base (all_contexts m) × Inserts c base (all_contexts rested)
@@ -202,7 +202,7 @@ module _ (h : Site) (m : Machine) (from : ℕ) (hf : from < 16) (sound : Machine
   old : EntryOk h m.tiles its.seat its.seat.seating × Each (HoldOk h its.seat.act) its.seat.hold
   old = sound.seated.seats its.seat.act its.seat there
 
-  seats' : (a : ℕ) (z : ActivityEntry) → entry_of a kernel_then ≡ Some z → EntryOk h m.tiles z z.seating × Each (HoldOk h z.act) z.hold
+  seats' : EntriesOk h m.tiles kernel_then
   seats' a z e =
       seat_then m.kernel.seats its.seat resting there refl (λ n o. o ≡ Some z → EntryOk h m.tiles z z.seating × Each (HoldOk h z.act) z.hold) a
       (λ d k. sound.seated.seats a z k)
@@ -224,7 +224,7 @@ module _ (h : Site) (m : Machine) (from : ℕ) (hf : from < 16) (sound : Machine
         acts = both.1;
         known = λ a k. moves_known c moves.0 (all_contexts m) (all_contexts rested) moves.1 moves.2 a (sound.known a k);
         named = moves_each c moves.0 (all_contexts m) (all_contexts rested) moves.1 moves.2 (λ c. is_named_context h c ≡ true) sound.named;
-        names = subst DistinctNames (sym packets_same) sound.names;
+        names = subst Distinct (sym packets_same) sound.names;
         housed = record { seats = order_replaced resting m.kernel.seats ∙ sound.housed.seats; tiles = sound.housed.tiles; stays = sound.housed.stays; current = sound.housed.current };
         parcels = parcels';
         seated = record {

@@ -5,7 +5,7 @@ use Rattle.m3_base.specs.declared.event.Said.{Said}
 use Rattle.m3_base.specs.declared.packet.Packet.{Packet}
 use Rattle.m3_base.specs.Lists.Keyed as keyed
 use Rattle.m3_base.specs.Ideal.Context.{Context}
-use Rattle.m3_base.specs.Ideal.State.{same_act}
+use Rattle.m3_base.specs.Ideal.State.{same_act, DistinctActs}
 use Rattle.m3_base.specs.Placement.Routing.{target}
 use Rattle.m3_base.specs.Placement.Take.{is_here}
 use Rattle.m3_model.specs.Config.Site.{Site, tile_of}
@@ -16,12 +16,11 @@ use Rattle.m3_model.specs.Tile.Step.{act_in}
 use Rattle.m3_model.specs.Kernel.Step.{entry_act, with_residency, join_ready, residency_of_saved, with_restore, with_restore_of, with_yielded}
 use Rattle.m3_model.specs.Machine.{Machine, Kernel_part, tile_at, link_at, with_link, with_part, with_parcels}
 use Rattle.m3_model.specs.Abstraction.{residency_contexts, all_contexts, current_act, ideal_of}
-use Rattle.m3_model.specs.Invariant.Distinct.{DistinctActs}
 use Rattle.m3_model.specs.Invariant.LinkWalk.{CurrentAlongLink, placed_on}
 use Rattle.m3_model.specs.Invariant.Structure.{MachineStructure}
-use Rattle.m3_refine.proofs.abstraction.MoveWithinMachine.{length-set}
-use Rattle.m3_refine.proofs.abstraction.MoveContext.{seats_at, restore_out_at}
+use Rattle.m3_refine.proofs.abstraction.MoveContext.{seats_at, restore_out_at, StaysIdeal}
 use Rattle.m3_refine.proofs.abstraction.CurrentAlongLink.{front_data, front_save, front_restore}
+use Rattle.std.proofs.lemmas.List.{length-set}
 
 joined_seats : (b : Bool) (t a : ℕ) (k : Kernel) → (join_ready b t a k).seats ≡ k.seats
 joined_seats true t a k = refl
@@ -45,7 +44,7 @@ module _ (h : Site) (m : Machine) (from : ℕ) (hi : 16 * from + 0 < length m.li
   abbrev pub rested : Machine
   rested = with_part 0 (Kernel_part kernel_rested) (with_link from 0 rest m)
 
-  rested_both : (ideal_of rested ≡ ideal_of m) × DistinctActs (all_contexts rested)
+  rested_both : StaysIdeal m rested
   rested_both =
       seats_at m (16 * from + 0) hi c waiting ended rest x (record x { seating = residency_of_saved c ended }) kernel_rested g f e refl refl
       (joined_seats ready (tile_of h x.act) x.act (with_residency (residency_of_saved c ended) x m.kernel))

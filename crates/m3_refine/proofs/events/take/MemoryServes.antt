@@ -1,6 +1,6 @@
 -- The memory takes a read or a write.
-use Rattle.std.proofs.Common.{◌≡◌, ℕ, ◌+◌, ◌*◌, ◌<◌, Bool, true, cond, List, [], ◌∷◌, Some, None, refl, sym, subst, ◌∙◌, ap, arith, length, map, inl, inr}
-use Rattle.std.specs.Prelude.{nat_le, ◌&&◌}
+use Rattle.std.proofs.Common.{◌≡◌, ℕ, ◌+◌, ◌*◌, ◌<◌, true, cond, List, [], ◌∷◌, Some, None, refl, sym, subst, ◌∙◌, ap, arith, length, map, inl, inr}
+use Rattle.std.specs.Prelude.{nat_le}
 use Rattle.std.proofs.lemmas.Bool.Decides.{nat_tests}
 use Rattle.std.proofs.lemmas.List.{get_or-map}
 use Rattle.m3_base.specs.declared.ids.FlightId.{FlightId}
@@ -36,6 +36,7 @@ use Rattle.m3_refine.proofs.arrival.ArriveIsLand.{came_one}
 use Rattle.m3_refine.proofs.lists.Update.{is_link}
 use Rattle.m3_refine.proofs.abstraction.PopParcel.{popped_absent, popped_apart, popped_flights, popped_flies, popped_state, popped_places, popped_ok, popped_sound}
 use Rattle.m3_refine.proofs.arrival.AnswerAndClosed.{home_tile, named_target, Emits, emit_answer}
+use Rattle.std.proofs.lemmas.Bool.{and_from}
 
 -- no part of soundness is about bytes
 pub memory_sound : (h : Site) (m : Machine) (x : List ℕ) → MachineStructure h m → MachineStructure h (record m { memory = x })
@@ -147,9 +148,6 @@ module _ (h : Site) (m : Machine) (from : ℕ) (hf : from < 16) (sound : Machine
       pub serve_refines : Refines h m (Event.Take 1 from) None (machine_step h m (Event.Take 1 from) None)
       serve_refines = subst (Refines h m (Event.Take 1 from) None) (sym serve_step) (serve_pstep, emitted.sound)
 
-  both : (a b : Bool) → a ≡ true → b ≡ true → (a && b) ≡ true
-  both a b p q = grind (arith, p, q)
-
   not_home : (a : ℕ) → is_home h a ≡ true → 1 ≡ tile_of h a → ⊥
   not_home a k e = let z = (home_tile h a sound.setup k).0 in omega arith
 
@@ -165,14 +163,14 @@ module _ (h : Site) (m : Machine) (from : ℕ) (hf : from < 16) (sound : Machine
       let inside : nat_le (place + length buffer) (length m.memory) ≡ true = (let z = hyp.reads id id n place buffer (flies p qs g) in grind (arith, nat_tests, z)) in
       let answer = Answer.Bytes (bytes_at place (length buffer) m.memory) in
       serve_refines p qs g m.memory answer issuer
-      (ap (λ b. cond b (serve_result h m.memory id answer) (dropped_result m.memory)) (both (is_home h id.issuer) (nat_le (place + length buffer) (length m.memory)) issuer inside))
+      (ap (λ b. cond b (serve_result h m.memory id answer) (dropped_result m.memory)) (and_from (is_home h id.issuer) (nat_le (place + length buffer) (length m.memory)) issuer inside))
       refl refl
   take_by (Data (Packet.Write id n place payload)) qs g ok =
       let p = Packet.Write id n place payload in
       let issuer : is_home h id.issuer ≡ true = (let z = ok.0 in grind (arith, z)) in
       let inside : nat_le (place + length payload) (length m.memory) ≡ true = (let z = hyp.writes id id n place payload (flies p qs g) in grind (arith, nat_tests, z)) in
       serve_refines p qs g (written_at place payload m.memory) Answer.Written issuer
-      (ap (λ b. cond b (serve_result h (written_at place payload m.memory) id Answer.Written) (dropped_result m.memory)) (both (is_home h id.issuer) (nat_le (place + length payload) (length m.memory)) issuer inside))
+      (ap (λ b. cond b (serve_result h (written_at place payload m.memory) id Answer.Written) (dropped_result m.memory)) (and_from (is_home h id.issuer) (nat_le (place + length payload) (length m.memory)) issuer inside))
       refl refl
   take_by (Data (Packet.Message to ep n x)) qs g ok = absurd (not_here to (Packet.Message to ep n x) ok.0 refl ok.1)
   take_by (Data (Packet.Credit id to n)) qs g ok = absurd (not_here to (Packet.Credit id to n) ok.0 refl ok.1)

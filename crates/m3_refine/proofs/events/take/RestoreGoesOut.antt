@@ -11,7 +11,6 @@ use Rattle.m3_base.specs.Ideal.Context.{Context}
 use Rattle.m3_base.specs.Ideal.State.{State, same_act}
 use Rattle.m3_base.specs.Placement.State as places_state
 use Rattle.m3_base.specs.Placement.Take as places_take
-use Rattle.m3_base.specs.Placement.State.{Placement, PlacedActivity}
 use Rattle.m3_base.specs.Lists.EachElement.{Each}
 use Rattle.m3_merge.proofs.MergedIsRun.{each_map}
 use Rattle.m3_model.specs.Config.Site.{Home, Site, tile_of}
@@ -22,8 +21,8 @@ use Rattle.m3_model.specs.Tile.Step.{resident_of}
 use Rattle.m3_model.specs.Kernel.Step.{entry_act, entry_of, with_residency, with_yielded, is_placed_entry, is_leaving_entry, is_coming_entry, is_leaving_at, is_due_entry, first_due, with_restore, with_restore_of}
 use Rattle.m3_model.specs.Machine.{Machine, tile_at, link_at, with_parcel, with_parcels}
 use Rattle.m3_model.specs.Abstraction.{flat_map, flat_links, tile_contexts, entry_contexts, residency_contexts, held_by, contexts_in, packets_in, closed_in, all_contexts, all_packets, all_closed, is_in, ideal_of, actor_in, actor_by, current_act, placement_of}
-use Rattle.m3_model.specs.Invariant.Distinct.{DistinctNames, DistinctClosed}
-use Rattle.m3_model.specs.Invariant.Scheduling.{has_home, is_placed_at, is_coming_at, is_leaving_of, EntryOk, HoldOk, saves_in_flight}
+use Rattle.m3_model.specs.Invariant.Distinct.{DistinctClosed}
+use Rattle.m3_model.specs.Invariant.Scheduling.{has_home, is_placed_at, is_coming_at, is_leaving_of, EntryOk, HoldOk, saves_in_flight, EntriesOk}
 use Rattle.m3_model.specs.Invariant.LinkWalk.{act_of_entry, placed_on, CurrentAlongLink}
 use Rattle.m3_model.specs.Invariant.Parcels.{is_here_entry, ParcelOk}
 use Rattle.m3_model.specs.Invariant.Structure.{MachineStructure}
@@ -35,8 +34,9 @@ use Rattle.m3_refine.proofs.lists.Update.{is_link, links_either}
 use Rattle.m3_refine.proofs.lists.PerLink.{push_length, push_each, push_leavings, push_orderly, moves_each, moves_known, moves_apart}
 use Rattle.m3_refine.proofs.abstraction.PushParcel.{longer_places}
 use Rattle.m3_refine.proofs.arrival.AnswerAndClosed.{home_tile}
-use Rattle.m3_refine.proofs.abstraction.EntriesMatchActors.{SeatOf, AreSeats, are_seats, actor_seat, seat_home, seat_tile, leaving_any, due_first, order_replaced, placed_one, placed_none}
-use Rattle.m3_refine.proofs.abstraction.ReplaceEntry.{seat_then, seat_now, seat_counts, placed_still, parcel_kernel, actors_then}
+use Rattle.m3_refine.proofs.abstraction.EntriesMatchActors.{SeatOf, AreSeats, are_seats, actor_seat, seat_home, seat_tile, leaving_any, due_first, order_replaced, placed_one, placed_none, IsEntryOf, seat_entry, one-and}
+use Rattle.m3_refine.proofs.abstraction.ReplaceEntry.{seat_then, seat_now, seat_counts, placed_still, parcel_kernel, actors_then, StaysHere}
+use Rattle.m3_base.specs.Ideal.FlightNames.{Distinct}
 
 -- ---- who comes
 
@@ -82,8 +82,8 @@ module _ (h : Site) (m : Machine) (sound : MachineStructure h m) (t : ℕ) (b : 
   abbrev c : Context
   c = w.context
 
-  there : keyed.find entry_act same_act b.act m.kernel.seats ≡ Some b
-  there = ap (λ n. keyed.find entry_act same_act n m.kernel.seats) s.act ∙ s.seat
+  there : IsEntryOf m.kernel b
+  there = seat_entry h m.kernel b y s
 
   old : EntryOk h m.tiles b b.seating × Each (HoldOk h b.act) b.hold
   old = sound.seated.seats b.act b there
@@ -138,18 +138,14 @@ module _ (h : Site) (m : Machine) (sound : MachineStructure h m) (t : ℕ) (b : 
 
   -- ---- counts
 
-  test_and : (q : Bool) → (one (q && true) ≡ one q) × (one (q && false) ≡ 0)
-  test_and true = (refl, refl)
-  test_and false = (refl, refl)
-
   was_coming : (u : ℕ) → one (is_coming_at h u b) ≡ one (tile_of h b.act == u)
-  was_coming u = ap (λ z. one ((tile_of h b.act == u) && is_coming_entry z)) comes ∙ (test_and (tile_of h b.act == u)).0
+  was_coming u = ap (λ z. one ((tile_of h b.act == u) && is_coming_entry z)) comes ∙ (one-and (tile_of h b.act == u)).0
 
   was_placed : (u : ℕ) → one (is_placed_at h u b) ≡ 0
-  was_placed u = ap (λ z. one ((tile_of h b.act == u) && is_placed_entry z)) comes ∙ (test_and (tile_of h b.act == u)).1
+  was_placed u = ap (λ z. one ((tile_of h b.act == u) && is_placed_entry z)) comes ∙ (one-and (tile_of h b.act == u)).1
 
   was_leaving : (u : ℕ) → one (is_leaving_at h u b) ≡ 0
-  was_leaving u = ap (λ z. one ((tile_of h b.act == u) && is_leaving_entry z)) comes ∙ (test_and (tile_of h b.act == u)).1
+  was_leaving u = ap (λ z. one ((tile_of h b.act == u) && is_leaving_entry z)) comes ∙ (one-and (tile_of h b.act == u)).1
 
   counts : (p : ActivityEntry → Bool) → how_many p kernel_then.seats + one (p b) ≡ how_many p m.kernel.seats + one (p placed)
   counts p = seat_counts m.kernel.seats b placed there refl p
@@ -161,8 +157,8 @@ module _ (h : Site) (m : Machine) (sound : MachineStructure h m) (t : ℕ) (b : 
       let f = sound.seated.filled u in
       let a = was_coming u in
       let d = was_placed u in
-      let e = (test_and (tile_of h b.act == u)).0 in
-      let g = (test_and (tile_of h b.act == u)).1 in
+      let e = (one-and (tile_of h b.act == u)).0 in
+      let g = (one-and (tile_of h b.act == u)).1 in
       omega arith
 
   leaving' : (u : ℕ) → how_many (is_leaving_at h u) kernel_then.seats ≤ how_many (is_coming_at h u) kernel_then.seats
@@ -175,7 +171,7 @@ module _ (h : Site) (m : Machine) (sound : MachineStructure h m) (t : ℕ) (b : 
       q = counts (is_coming_at h u)
 
       z : one (is_leaving_at h u placed) ≡ 0
-      z = (test_and (tile_of h b.act == u)).1
+      z = (one-and (tile_of h b.act == u)).1
 
       by_tile : (d : Bool) → (t == u) ≡ d → how_many (is_leaving_at h u) kernel_then.seats ≤ how_many (is_coming_at h u) kernel_then.seats
       by_tile true d =
@@ -204,7 +200,7 @@ module _ (h : Site) (m : Machine) (sound : MachineStructure h m) (t : ℕ) (b : 
       let u = tile_of h b.act in
       let q = counts (is_coming_at h u) in
       let a : one (is_coming_at h u b) ≡ 1 = was_coming u ∙ ap one (same_tile u) in
-      let z : one (is_coming_at h u placed) ≡ 0 = (test_and (tile_of h b.act == u)).1 in
+      let z : one (is_coming_at h u placed) ≡ 0 = (one-and (tile_of h b.act == u)).1 in
       let some : 1 ≤ how_many (is_coming_at h u) m.kernel.seats = omega arith in
       ap act_of_entry (placed_none h u m.kernel.seats (at_most (has_home u h.homes) (how_many (is_placed_at h u) m.kernel.seats) (how_many (is_coming_at h u) m.kernel.seats) (sound.seated.filled u) some))
 
@@ -234,7 +230,7 @@ module _ (h : Site) (m : Machine) (sound : MachineStructure h m) (t : ℕ) (b : 
 
   -- ---- it is as sound
 
-  seats' : (a : ℕ) (z : ActivityEntry) → entry_of a kernel_then ≡ Some z → EntryOk h m.tiles z z.seating × Each (HoldOk h z.act) z.hold
+  seats' : EntriesOk h m.tiles kernel_then
   seats' a z e =
       seat_then m.kernel.seats b placed there refl (λ n o. o ≡ Some z → EntryOk h m.tiles z z.seating × Each (HoldOk h z.act) z.hold) a
       (λ d k. sound.seated.seats a z k)
@@ -245,7 +241,7 @@ module _ (h : Site) (m : Machine) (sound : MachineStructure h m) (t : ℕ) (b : 
       seat_then m.kernel.seats b placed there refl (λ n o. is_leaving_of o ≡ is_leaving_of (keyed.find entry_act same_act n m.kernel.seats)) a (λ d. refl)
       (λ d. sym (ap is_leaving_of (ap (λ n. keyed.find entry_act same_act n m.kernel.seats) d ∙ there) ∙ ap is_leaving_entry comes))
 
-  here_still : (a : ℕ) → is_here_entry (entry_of a m.kernel) ≡ true → is_here_entry (entry_of a kernel_then) ≡ true
+  here_still : StaysHere m.kernel kernel_then
   here_still a =
       seat_then m.kernel.seats b placed there refl (λ n o. is_here_entry (keyed.find entry_act same_act n m.kernel.seats) ≡ true → is_here_entry o ≡ true) a (λ d k. k) (λ d k. refl)
 
@@ -258,7 +254,7 @@ module _ (h : Site) (m : Machine) (sound : MachineStructure h m) (t : ℕ) (b : 
         acts = moves_apart w.context moves.0 (all_contexts m) (all_contexts restoring) moves.1 moves.2 sound.acts;
         known = λ a k. moves_known w.context moves.0 (all_contexts m) (all_contexts restoring) moves.1 moves.2 a (sound.known a k);
         named = moves_each w.context moves.0 (all_contexts m) (all_contexts restoring) moves.1 moves.2 (λ c. is_named_context h c ≡ true) sound.named;
-        names = subst DistinctNames (sym packets_same) sound.names;
+        names = subst Distinct (sym packets_same) sound.names;
         housed = record { seats = order_replaced placed m.kernel.seats ∙ sound.housed.seats; tiles = sound.housed.tiles; stays = sound.housed.stays; current = sound.housed.current };
         parcels = push_each m.links 0 (tile_of h b.act) zero_low lives.1 sound.links (Restore w.context.act w.context w.heard) (ParcelOk h kernel_then m.tiles)
             (λ a d ha hd. each_map (ParcelOk h m.kernel m.tiles a d) (ParcelOk h kernel_then m.tiles a d) (parcel_kernel h m.kernel kernel_then m.tiles here_still a d) (link_at a d m) (sound.parcels a d ha hd))

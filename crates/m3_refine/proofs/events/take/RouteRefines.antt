@@ -8,10 +8,9 @@ use Rattle.m3_base.specs.declared.packet.Packet.{Packet}
 use Rattle.m3_base.specs.Lists.Keyed as keyed
 use Rattle.m3_base.specs.Lists.Counting.{one, how_many}
 use Rattle.m3_base.specs.Ideal.Flights.{name_of, flight, new_flight}
-use Rattle.m3_base.specs.Ideal.State.{same_act, context_of}
+use Rattle.m3_base.specs.Ideal.State.{same_act, context_of, DistinctActs}
 use Rattle.m3_base.specs.Placement.State as places_state
 use Rattle.m3_base.specs.Placement.Routing as places_routing
-use Rattle.m3_base.specs.Placement.State.{Placement, PlacedActivity, actor_act}
 use Rattle.m3_base.specs.Placement.Routing.{target}
 use Rattle.m3_base.specs.Lists.EachElement.{Each}
 use Rattle.m3_merge.proofs.MergedIsRun.{each_append, each_map}
@@ -23,7 +22,6 @@ use Rattle.m3_model.specs.Tile.Step.{resident_of}
 use Rattle.m3_model.specs.Kernel.Step.{entry_act, entry_of, with_held, is_placed_entry, is_leaving_at, route_to, route, entry_for, Routed}
 use Rattle.m3_model.specs.Machine.{Machine, tile_at, link_at, with_parcel, with_parcels}
 use Rattle.m3_model.specs.Abstraction.{flat_map, flat_links, tile_contexts, entry_contexts, held_by, packets_in, contexts_in, all_contexts, all_packets, all_closed, sorted_by_act, closed_from, ideal_of, actor_in, actor_by, current_act, placement_of}
-use Rattle.m3_model.specs.Invariant.Distinct.{DistinctActs}
 use Rattle.m3_model.specs.Invariant.Housing.{IsPresent}
 use Rattle.m3_model.specs.Invariant.LinkWalk.{act_of_entry, placed_on, CurrentAlongLink}
 use Rattle.m3_model.specs.Invariant.Scheduling.{is_placed_at, is_coming_at, has_home, is_leaving_of, EntryOk, HoldOk}
@@ -39,7 +37,7 @@ use Rattle.m3_refine.proofs.abstraction.PushParcel.{names_add, longer_places, se
 use Rattle.m3_refine.proofs.arrival.AnswerAndClosed.{home_tile}
 use Rattle.m3_refine.proofs.abstraction.EntriesMatchActors.{SeatOf, AreSeats, are_seats, actor_place, seat_tile, order_replaced, placed_one, placed_same}
 use Rattle.m3_refine.proofs.abstraction.ReplaceEntry.{seat_then, seat_now, seat_counts, placed_still, parcel_kernel, actors_then}
-use Rattle.m3_refine.proofs.opening.OpensSound.{is_there_of}
+use Rattle.m3_base.proofs.Options.{some_if_some}
 
 -- ---- the seat of a home
 
@@ -71,7 +69,7 @@ pub record KnownActivity (h : Site) (m : Machine) (a : ℕ) : Type 0 where
 
 pub known_activity : (h : Site) (m : Machine) (a : ℕ) → MachineStructure h m → is_home h a ≡ true → KnownActivity h m a
 known_activity h m a sound k =
-    let y = is_there_of (home_of a h) k in
+    let y = some_if_some (home_of a h) k in
     let s = seat_of_home h m.kernel a m.kernel.seats h.homes y.0 (are_seats h m.kernel sound.housed.seats sound.setup.homes) y.1 in
     record { home = y.0; found = y.1; key = home_key a h.homes y.0 y.1; seat = s.0; its = s.1 }
 

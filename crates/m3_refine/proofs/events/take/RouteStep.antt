@@ -16,15 +16,15 @@ use Rattle.m3_model.specs.Tile.Step.{resident_of, is_waiting_resident, has_ended
 use Rattle.m3_model.specs.Kernel.Step.{entry_act, with_held}
 use Rattle.m3_model.specs.Machine.{Machine, Kernel_part, tile_at, link_at, with_link, with_part, with_parcels, machine_step, done_by, of_tile}
 use Rattle.m3_model.specs.Abstraction.{flat_map, flat_links, tile_contexts, entry_contexts, held_by, contexts_in, packets_in, closed_in, all_packets, sorted_by_act, closed_from, ideal_of}
-use Rattle.m3_model.specs.Invariant.Distinct.{DistinctNames}
 use Rattle.m3_refine.proofs.lists.Insertion.{Inserts, inserts_left, inserts_right, pop_none, pop_one}
 use Rattle.m3_refine.proofs.lists.Replacement.{around_replaced}
 use Rattle.m3_refine.proofs.abstraction.MoveWithinMachine.{moved, moved_none, moved_on, packet-moves}
 use Rattle.m3_refine.proofs.abstraction.MoveContext.{name_inserts}
 use Rattle.m3_refine.proofs.abstraction.FindActor.{after_save}
 use Rattle.m3_refine.proofs.events.take.BounceStep.{take_step}
+use Rattle.m3_base.specs.Ideal.FlightNames.{Distinct}
 
-module _ (m : Machine) (from : ℕ) (hi : 16 * from + 0 < length m.links) (p : Packet) (rest : List Parcel) (g : link_at from 0 m ≡ Data p ∷ rest) (apart : DistinctNames (all_packets m)) where
+module _ (m : Machine) (from : ℕ) (hi : 16 * from + 0 < length m.links) (p : Packet) (rest : List Parcel) (g : link_at from 0 m ≡ Data p ∷ rest) (apart : Distinct (all_packets m)) where
   -- on the home link of a placed activity
   pub routed_at : (t : ℕ) → 16 * 0 + t < length m.links → ideal_of (with_parcels 0 ((t, Data p) ∷ []) (with_part 0 (Kernel_part m.kernel) (with_link from 0 rest m))) ≡ ideal_of m
   routed_at t hj =

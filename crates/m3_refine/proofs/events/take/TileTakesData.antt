@@ -6,7 +6,6 @@ use Rattle.std.proofs.lemmas.List.{get_or-map}
 use Rattle.m3_base.specs.declared.ids.FlightId.{FlightId}
 use Rattle.m3_base.specs.declared.packet.Packet.{Packet}
 use Rattle.m3_base.specs.declared.event.Event.{Event}
-use Rattle.m3_base.specs.declared.event.Said.{Said}
 use Rattle.m3_base.specs.Ideal.Flights.{name_of, flight}
 use Rattle.m3_base.specs.Ideal.Context.{Context, endpoint}
 use Rattle.m3_base.specs.Ideal.Landing.{has_closing}
@@ -17,7 +16,6 @@ use Rattle.m3_base.specs.Ideal.Acceptance.{fits}
 use Rattle.m3_base.specs.Placement.State as places_state
 use Rattle.m3_base.specs.Placement.Take as places_take
 use Rattle.m3_base.specs.Placement.Landing as places_landing
-use Rattle.m3_base.specs.Placement.State.{Placement}
 use Rattle.m3_base.specs.Placement.Step.{placement_step}
 use Rattle.m3_base.specs.Placement.Routing.{target, target_of}
 use Rattle.m3_base.specs.Placement.Take.{is_here}
@@ -31,7 +29,7 @@ use Rattle.m3_model.specs.Tile.Step.{resident_of, with_current, heard_by, take_a
 use Rattle.m3_model.specs.Machine.{Machine, Tile_part, empty_tile, tile_at, link_at, with_link, with_part, with_parcels, machine_step, done_by, of_tile}
 use Rattle.m3_model.specs.Abstraction.{ideal_of, link_token, current_act, placement_of}
 use Rattle.m3_model.specs.Invariant.Housing.{IsPresent}
-use Rattle.m3_model.specs.Invariant.IdealFacts.{HeldThere, IdealFacts}
+use Rattle.m3_model.specs.Invariant.IdealFacts.{IdealFacts}
 use Rattle.m3_model.specs.Invariant.Structure.{MachineStructure}
 use Rattle.m3_model.specs.Refinement.{Refines}
 use Rattle.m3_refine.proofs.events.take.BounceStep.{take_step}
@@ -44,6 +42,7 @@ use Rattle.m3_refine.proofs.arrival.ArriveKeeps.{FreedBy, KeptBy, arrive_keeps}
 use Rattle.m3_refine.proofs.arrival.KeepsKnownActivities.{NamedBy, arrive_names}
 use Rattle.m3_refine.proofs.arrival.AnswerAndClosed.{ShutsIf, Shuts, Emits, emit_both}
 use Rattle.m3_refine.proofs.arrival.CurrentContext.{current_found, current_each, heard_current, heard_tile, heard_alike, fits_arrives}
+use Rattle.m3_base.specs.Ideal.GrantHolder.{HeldThere}
 
 module _ (h : Site) (m : Machine) (t from : ℕ) (low : 2 ≤ t) (high : t < 16) (hf : from < 16) (sound : MachineStructure h m) (hyp : IdealFacts m)
     (p : Packet) (qs : List Parcel) (g : link_at from t m ≡ Data p ∷ qs) (c : Context) (e : (tile_at t m).current ≡ Some c) (aim : target p ≡ Some c.act) where
@@ -198,8 +197,8 @@ module _ (h : Site) (m : Machine) (t from : ℕ) (low : 2 ≤ t) (high : t < 16)
         ap (λ f. is_here (target_of f) (places_state.current_of t q)) flies ∙ ap (is_here (target p)) current ∙ aimed in
         ap (λ l. places_take.take s (placement_of h m) t from l) link
         ∙ ap (λ b. cond b (places_take.take_at_kernel s q (places_state.Data id)) (places_take.take_at_tile s q t (places_state.Data id))) no_kernel
-        ∙ ap (λ b. cond (b || is_here (target_of (flight id s.flights)) (places_state.current_of t q)) (places_take.land_here t q (landing_result s id)) (places_landing.step_outcome (Said.Bounced id) s (places_state.with_token t 0 (places_state.Data id) q))) no_memory
-        ∙ ap (λ b. cond b (places_take.land_here t q (landing_result s id)) (places_landing.step_outcome (Said.Bounced id) s (places_state.with_token t 0 (places_state.Data id) q))) here
+        ∙ ap (λ b. cond (b || is_here (target_of (flight id s.flights)) (places_state.current_of t q)) (places_take.land_here t q (landing_result s id)) (places_take.bounced s q t id (target_of (flight id s.flights)))) no_memory
+        ∙ ap (λ b. cond b (places_take.land_here t q (landing_result s id)) (places_take.bounced s q t id (target_of (flight id s.flights)))) here
         ∙ ap (places_take.land_here t q) comes
         ∙ (λ k. places_landing.step_outcome r.said (sym land_state k) (sym land_places k))
 

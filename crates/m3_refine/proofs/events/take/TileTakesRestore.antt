@@ -1,75 +1,50 @@
 -- A tile takes Restore: the whole event.
-use Rattle.std.proofs.Common.{◌≡◌, ℕ, ◌+◌, ◌*◌, ◌<◌, ◌≤◌, Bool, true, false, cond, List, [], ◌∷◌, ◌++◌, Some, None, refl, sym, subst, ◌∙◌, ap, arith, set, get_or, length, map, Option}
+use Rattle.std.proofs.Common.{◌≡◌, ℕ, ◌+◌, ◌*◌, ◌<◌, ◌≤◌, true, false, cond, List, [], ◌∷◌, ◌++◌, Some, None, refl, sym, subst, ◌∙◌, ap, arith, set, get_or, length, map}
 use Rattle.std.specs.Prelude.{◌==◌, ◌&&◌}
 use Rattle.std.proofs.lemmas.Bool.Decides.{nat_tests}
-use Rattle.std.proofs.lemmas.List.{map-set, get_or-map}
+use Rattle.std.proofs.lemmas.List.{map-set, get_or-map, length-set}
 use Rattle.m3_base.specs.declared.event.Event.{Event}
 use Rattle.m3_base.specs.declared.event.Said.{Said}
 use Rattle.m3_base.specs.Ideal.Context.{Context}
-use Rattle.m3_base.specs.Ideal.State.{same_act}
 use Rattle.m3_base.specs.Placement.State as places_state
 use Rattle.m3_base.specs.Placement.Take as places_take
 use Rattle.m3_base.specs.Placement.Landing as places_landing
 use Rattle.m3_base.specs.Placement.State.{Placement, PlacedActivity}
-use Rattle.m3_base.specs.Placement.Step.{placement_step}
-use Rattle.m3_base.proofs.KeyedList.{find-replaced_other, find-replaced_same}
-use Rattle.m3_base.specs.Lists.EachElement.{Each}
 use Rattle.m3_merge.proofs.MergedIsRun.{each_map}
-use Rattle.m3_merge.proofs.StampBounds.{each_back}
-use Rattle.m3_model.specs.Config.Site.{Site, Home, home_of, tile_of, tile_in}
-use Rattle.m3_model.specs.Kernel.State.{Kernel, EntryResidency, Is_placed, Is_leaving, Is_resting, Is_coming, ActivityEntry}
-use Rattle.m3_model.specs.Parcel.{Heard, Parcel, Data, Save, Saved, Restore, Yield, Closed}
+use Rattle.m3_model.specs.Config.Site.{Site, tile_of, tile_in}
+use Rattle.m3_model.specs.Parcel.{Heard, Parcel, Restore}
 use Rattle.m3_model.specs.Tile.State.{Resident, Tile}
 use Rattle.m3_model.specs.LocalStep.{dropped_result}
 use Rattle.m3_model.specs.Config.KnownActivities.{is_named_context, has_bounded_counters}
-use Rattle.m3_model.specs.Tile.Step.{resident_act, resident_of, with_resident, with_current, resident_at_restore, take_restore, after_restore}
+use Rattle.m3_model.specs.Tile.Step.{resident_of, with_resident, with_current, resident_at_restore, take_restore, after_restore}
 use Rattle.m3_model.specs.Kernel.Step.{entry_of}
 use Rattle.m3_model.specs.Machine.{Machine, Tile_part, empty_tile, tile_at, link_at, with_link, with_part, machine_step, done_by, of_tile}
-use Rattle.m3_model.specs.Abstraction.{flat_map, flat_links, option_list, tile_contexts, entry_contexts, contexts_in, packets_in, closed_in, held_by, all_contexts, all_packets, all_closed, is_in, ideal_of, link_token, actor_in, actor_by, current_act, placement_of}
-use Rattle.m3_model.specs.Invariant.Distinct.{DistinctNames, DistinctClosed}
-use Rattle.m3_model.specs.Invariant.Housing.{IsPresent, HasHome, resident_at}
+use Rattle.m3_model.specs.Abstraction.{flat_map, flat_links, option_list, tile_contexts, entry_contexts, contexts_in, packets_in, closed_in, held_by, all_contexts, is_in, ideal_of, link_token, actor_in, actor_by, current_act, placement_of}
+use Rattle.m3_model.specs.Invariant.Distinct.{DistinctClosed}
+use Rattle.m3_model.specs.Invariant.Housing.{HasHome, resident_at}
 use Rattle.m3_model.specs.Invariant.LinkWalk.{CurrentAlongLink, placed_on}
-use Rattle.m3_model.specs.Invariant.Parcels.{EndedFlagIs, ParcelOk}
-use Rattle.m3_model.specs.Invariant.Scheduling.{EntryOk, saves_in_flight}
+use Rattle.m3_model.specs.Invariant.Parcels.{ParcelOk}
+use Rattle.m3_model.specs.Invariant.Scheduling.{saves_in_flight, LinksLeadOn}
 use Rattle.m3_model.specs.Invariant.Structure.{MachineStructure}
 use Rattle.m3_model.specs.Refinement.{Refines}
 use Rattle.m3_refine.proofs.events.take.RouteStep.{itself}
-use Rattle.m3_refine.proofs.lists.Insertion.{Inserts, inserts_left, inserts_right, around_set, fills, pop_none, pop_one}
-use Rattle.m3_refine.proofs.abstraction.MoveWithinMachine.{length-set}
+use Rattle.m3_refine.proofs.lists.Insertion.{Inserts, inserts_left, inserts_right, around_set, fills, pop_none, pop_one, inserted_each}
 use Rattle.m3_refine.proofs.abstraction.MoveContext.{restores_at}
 use Rattle.m3_refine.proofs.abstraction.FindActor.{tokens, find_actor}
 use Rattle.m3_refine.proofs.events.take.BounceStep.{take_step}
 use Rattle.m3_refine.proofs.abstraction.CurrentAlongLink.{front_restore}
 use Rattle.m3_refine.proofs.events.take.KernelTakesSavedStep.{restore_fits}
-use Rattle.m3_refine.proofs.lists.Update.{get_or-set, is_link, links_either}
+use Rattle.m3_refine.proofs.lists.Update.{is_link, links_either}
 use Rattle.m3_refine.proofs.lists.PerLink.{pop_length, pop_front, pop_each, pop_leavings, pop_orderly, moves_each, moves_known, moves_apart}
 use Rattle.m3_refine.proofs.arrival.CurrentContext.{stay_key}
-use Rattle.m3_refine.proofs.abstraction.ReplaceEntry.{actors_then}
 use Rattle.m3_refine.proofs.events.take.RouteRefines.{KnownActivity, known_activity}
 use Rattle.m3_refine.proofs.opening.HomesAndContexts.{some_there}
-
--- ---- programs that have ended, or not
-
-parcel_ended : (h : Site) (k : Kernel) (ts us : List Tile) → ((a : ℕ) (e : Bool) → EndedFlagIs e (resident_at h ts a) → EndedFlagIs e (resident_at h us a)) → (from to : ℕ) (q : Parcel) → ParcelOk h k ts from to q → ParcelOk h k us from to q
-parcel_ended h k ts us f from to (Data p) o = o
-parcel_ended h k ts us f from to (Save a) o = o
-parcel_ended h k ts us f from to (Saved a c w d) o = (o.0, o.1, o.2, f c.act d o.3, o.4)
-parcel_ended h k ts us f from to (Restore a c xs) o = o
-parcel_ended h k ts us f from to (Yield a) o = o
-parcel_ended h k ts us f from to (Closed g) o = o
-
-seat_ended : (h : Site) (ts us : List Tile) → ((a : ℕ) (e : Bool) → EndedFlagIs e (resident_at h ts a) → EndedFlagIs e (resident_at h us a)) → (x : ActivityEntry) (w : EntryResidency) → EntryOk h ts x w → EntryOk h us x w
-seat_ended h ts us f x Is_placed o = o
-seat_ended h ts us f x Is_leaving o = o
-seat_ended h ts us f x (Is_resting y) o = (o.0, f x.act y.ended o.1)
-seat_ended h ts us f x (Is_coming y) o = (o.0, f x.act y.ended o.1)
-
-joins : (a b c : ℕ) → same_act a c ≡ true → same_act b c ≡ true → same_act a b ≡ true
-joins a b c p q = grind (arith, nat_tests)
-
-ended_some : (e : Bool) (o : Option Resident) (y z : Resident) → o ≡ Some y → z.ended ≡ y.ended → EndedFlagIs e o → EndedFlagIs e (Some z)
-ended_some e None y z k s o = absurd (cc)
-ended_some e (Some w) y z k s o = let q : w ≡ y = cc in s ∙ sym (ap (λ v. v.ended) q) ∙ o
+use Rattle.m3_base.specs.Ideal.FlightNames.{Distinct}
+use Rattle.m3_refine.proofs.abstraction.MoveWithinMachine.{SamePackets, SameClosed}
+use Rattle.m3_refine.proofs.abstraction.ChangeContext.{Alike, actor-alike, map-same, there-alike}
+use Rattle.m3_refine.proofs.abstraction.ChangeCurrentContext.{parcel-alike, seat-alike}
+use Rattle.m3_refine.proofs.abstraction.ChangeResident.{restayed, restayed_places, restayed_sound, restayed_state, tile_again, tile_there}
+use Rattle.m3_refine.proofs.events.take.TileTakesSaveOrBounces.{tile_either, stays_like}
 
 module _ (h : Site) (m : Machine) (t : ℕ) (low : 2 ≤ t) (high : t < 16) (sound : MachineStructure h m) (c : Context) (xs : List Heard) (qs : List Parcel) (g : link_at 0 t m ≡ Restore c.act c xs ∷ qs) (numbers : has_bounded_counters c ≡ true) where
   zero_low : 0 < 16
@@ -105,14 +80,12 @@ module _ (h : Site) (m : Machine) (t : ℕ) (low : 2 ≤ t) (high : t < 16) (sou
   z_act : stay.0.act ≡ c.act
   z_act = stay_key c.act (tile_at t m).stays stay.0 stay.1
 
-  abbrev shorter : List (List Parcel)
-  shorter = set m.links (16 * 0 + t) qs
-
   abbrev come : Tile
-  come = with_resident (resident_at_restore xs stay.0) (with_current (Some c) (tile_at t m))
+  come = with_current (Some c) (tile_at t m)
 
+  -- its context has come, and its stay hasn't begun
   abbrev n : Machine
-  n = with_part t (Tile_part (with_resident (resident_at_restore xs stay.0) (with_current (Some c) (tile_at t m)))) (with_link 0 t qs m)
+  n = with_part t (Tile_part (with_current (Some c) (tile_at t m))) (with_link 0 t qs m)
 
   -- ---- its context moves from the link to the tile
 
@@ -120,7 +93,7 @@ module _ (h : Site) (m : Machine) (t : ℕ) (low : 2 ≤ t) (high : t < 16) (sou
   moves =
       let seats = flat_map entry_contexts m.kernel.seats in
       let old = flat_links contexts_in m.links in
-      let left = flat_links contexts_in shorter in
+      let left = flat_links contexts_in (set m.links (16 * 0 + t) qs) in
       let ts = flat_map tile_contexts m.tiles in
       let us = flat_map tile_contexts (set m.tiles t come) in
       let comes : Inserts c ts us =
@@ -130,51 +103,24 @@ module _ (h : Site) (m : Machine) (t : ℕ) (low : 2 ≤ t) (high : t < 16) (sou
         inserts_right (seats ++ left) c ts us comes,
       )
 
-  named : is_named_context h c ≡ true
-  named = let i = moves.1 in (each_back (λ c. is_named_context h c ≡ true) i.front (c ∷ i.back) (subst (Each (λ c. is_named_context h c ≡ true)) i.whole sound.named)).0
-
-  packets_same : all_packets n ≡ all_packets m
+  packets_same : SamePackets m n
   packets_same = ap (λ l. flat_map held_by m.kernel.seats ++ l) (pop_none packets_in m.links (16 * 0 + t) (Restore c.act c xs) qs in_links g refl)
 
-  closed_same : all_closed n ≡ all_closed m
+  closed_same : SameClosed m n
   closed_same = pop_none closed_in m.links (16 * 0 + t) (Restore c.act c xs) qs in_links g refl
 
   -- ---- stays
 
   tile_set : (P : ℕ → Tile → Type 0) (u : ℕ) → ((t == u) ≡ false → P u (tile_at u m)) → (t ≡ u → P u come) → P u (tile_at u n)
-  tile_set P u have now = subst (P u) (sym (get_or-set m.tiles t u come (empty_tile u) in_tiles)) (by_test (t == u) refl)
-    where
-      by_test : (b : Bool) → (t == u) ≡ b → P u (cond b come (get_or m.tiles u (empty_tile u)))
-      by_test true k = now (grind (arith, nat_tests, k))
-      by_test false k = have k
+  tile_set = tile_either m.tiles t in_tiles come refl
 
-  other_stay : (a : ℕ) → (a == c.act) ≡ false → resident_of a come ≡ resident_of a (tile_at t m)
-  other_stay a d = find-replaced_other resident_act same_act same_act a (resident_at_restore xs stay.0) (tile_at t m).stays joins (let e = z_act in let k : (a == stay.0.act) ≡ false = grind (arith, nat_tests, d, e) in k)
+  like : (a u : ℕ) → Alike (resident_of a (tile_at u m)) (resident_of a (tile_at u n))
+  like = stays_like m.tiles t in_tiles come refl
 
-  its_stay : resident_of c.act come ≡ Some (resident_at_restore xs stay.0)
-  its_stay =
-      ap (λ k. resident_of k come) (sym z_act)
-      ∙ find-replaced_same resident_act same_act same_act (resident_at_restore xs stay.0) stay.0 (tile_at t m).stays (let k : same_act stay.0.act stay.0.act ≡ true = grind (arith, nat_tests) in k) (ap (λ k. resident_of k (tile_at t m)) z_act ∙ stay.1)
+  like_home : (a : ℕ) → Alike (resident_at h m.tiles a) (resident_at h n.tiles a)
+  like_home a = like a (tile_of h a)
 
-  -- a stay, by its activity and tile
-  stay_either : (P : ℕ → Option Resident → Type 0) (a u : ℕ) → P a (resident_of a (tile_at u m)) → (a ≡ c.act → t ≡ u → P a (Some (resident_at_restore xs stay.0))) → P a (resident_of a (tile_at u n))
-  stay_either P a u have now = tile_set (λ v y. P a (resident_of a y)) u (λ d. have) (λ e. by_act e (a == c.act) refl)
-    where
-      by_act : t ≡ u → (b : Bool) → (a == c.act) ≡ b → P a (resident_of a come)
-      by_act e false d = subst (P a) (sym (other_stay a d)) (subst (λ v. P a (resident_of a (tile_at v m))) (sym e) have)
-      by_act e true d =
-          let k : a ≡ c.act = grind (arith, nat_tests, d) in
-          subst (P a) (sym (ap (λ v. resident_of v come) k ∙ its_stay)) (now k e)
-
-  stay_here : (a u : ℕ) → a ≡ c.act → t ≡ u → resident_of a (tile_at u m) ≡ Some stay.0
-  stay_here a u k e = ap (λ v. resident_of v (tile_at u m)) k ∙ ap (λ v. resident_of c.act (tile_at v m)) (sym e) ∙ stay.1
-
-  ended' : (a : ℕ) (e : Bool) → EndedFlagIs e (resident_at h m.tiles a) → EndedFlagIs e (resident_at h n.tiles a)
-  ended' a e o =
-      stay_either (λ b r. EndedFlagIs e r) a (tile_of h a) o
-      (λ k d. ended_some e (resident_of a (tile_at (tile_of h a) m)) stay.0 (resident_at_restore xs stay.0) (stay_here a (tile_of h a) k d) refl o)
-
-  walks' : (w : ℕ) → 2 ≤ w → w < 16 → CurrentAlongLink (current_act (tile_at w n)) (link_at 0 w n) (placed_on h w m.kernel)
+  walks' : LinksLeadOn h n m.kernel
   walks' w lo hi =
       links_either m.links 0 t qs zero_low high sound.links (λ x u ps. x ≡ 0 → 2 ≤ u → u < 16 → CurrentAlongLink (current_act (tile_at u n)) ps (placed_on h u m.kernel)) 0 w hi
       (λ d e l k. subst (λ o. CurrentAlongLink o (link_at 0 w m) (placed_on h w m.kernel)) (sym (still (let z : (t == w) ≡ false = grind (arith, nat_tests, d) in z))) (sound.seated.walks w lo hi))
@@ -194,8 +140,8 @@ module _ (h : Site) (m : Machine) (t : ℕ) (low : 2 ≤ t) (high : t < 16) (sou
   lives : HasHome h t c.act
   lives = (its.home, its.found, sym (ap tile_in its.found) ∙ sym ok.2)
 
-  pub restore_sound : MachineStructure h n
-  restore_sound =
+  come_sound : MachineStructure h n
+  come_sound =
       record {
         setup = sound.setup;
         tiles = length-set m.tiles t come ∙ sound.tiles;
@@ -203,21 +149,21 @@ module _ (h : Site) (m : Machine) (t : ℕ) (low : 2 ≤ t) (high : t < 16) (sou
         acts = moves_apart c moves.0 (all_contexts m) (all_contexts n) moves.1 moves.2 sound.acts;
         known = λ a k. moves_known c moves.0 (all_contexts m) (all_contexts n) moves.1 moves.2 a (sound.known a k);
         named = moves_each c moves.0 (all_contexts m) (all_contexts n) moves.1 moves.2 (λ c. is_named_context h c ≡ true) sound.named;
-        names = subst DistinctNames (sym packets_same) sound.names;
+        names = subst Distinct (sym packets_same) sound.names;
         housed = record {
           seats = sound.housed.seats;
           tiles = λ u k. tile_set (λ v y. y.tile ≡ v) u (λ d. sound.housed.tiles u k) (λ d. sound.housed.tiles t high ∙ d);
-          stays = λ a k. stay_either (λ b r. IsPresent r) a (tile_of h a) (sound.housed.stays a k) (λ e d. tt);
+          stays = λ a k. there-alike (resident_at h m.tiles a) (resident_at h n.tiles a) (like_home a) (sound.housed.stays a k);
           current = λ u w k. tile_set (λ v y. y.current ≡ Some w → HasHome h v w.act) u (λ d. sound.housed.current u w)
               (λ d e. subst (λ v. HasHome h v w.act) d (let q : c ≡ w = cc in subst (λ z. HasHome h t z.act) q lives)) k;
         };
         parcels = pop_each m.links 0 t zero_low high sound.links (Restore c.act c xs) qs g (ParcelOk h m.kernel n.tiles)
-            (λ a b ha hb. each_map (ParcelOk h m.kernel m.tiles a b) (ParcelOk h m.kernel n.tiles a b) (parcel_ended h m.kernel m.tiles n.tiles ended' a b) (link_at a b m) (sound.parcels a b ha hb));
+            (λ a b ha hb. each_map (ParcelOk h m.kernel m.tiles a b) (ParcelOk h m.kernel n.tiles a b) (parcel-alike h m.kernel m.tiles n.tiles like_home a b) (link_at a b m) (sound.parcels a b ha hb));
         seated = record {
-          seats = λ a x k. (seat_ended h m.tiles n.tiles ended' x x.seating (sound.seated.seats a x k).0, (sound.seated.seats a x k).1);
+          seats = λ a x k. (seat-alike h m.tiles n.tiles like_home x x.seating (sound.seated.seats a x k).0, (sound.seated.seats a x k).1);
           filled = sound.seated.filled;
           leaving = sound.seated.leaving;
-          departing = λ a. (let r = pop_leavings m.links 0 t zero_low high sound.links (Restore c.act c xs) qs g a in let z : saves_in_flight a shorter ≡ saves_in_flight a m.links = omega arith in z) ∙ sound.seated.departing a;
+          departing = λ a. (let r = pop_leavings m.links 0 t zero_low high sound.links (Restore c.act c xs) qs g a in let z : saves_in_flight a (set m.links (16 * 0 + t) qs) ≡ saves_in_flight a m.links = omega arith in z) ∙ sound.seated.departing a;
           walks = walks';
           orderly = pop_orderly m.links 0 t zero_low high sound.links (Restore c.act c xs) qs g sound.seated.orderly;
         };
@@ -231,39 +177,56 @@ module _ (h : Site) (m : Machine) (t : ℕ) (low : 2 ≤ t) (high : t < 16) (sou
   abbrev q : Placement
   q = places_state.with_link 0 t (map link_token qs) (placement_of h m)
 
-  its_tile : its.home.tile ≡ t
-  its_tile = sym (ap tile_in its.found) ∙ sym ok.2
-
-  new_actor : actor_in n its.home ≡ record (actor_in m its.home) { moves = 0; yield_sent = false }
-  new_actor =
-      let seat = entry_of its.home.act m.kernel in
-      let now : resident_of its.home.act (tile_at its.home.tile n) ≡ Some (resident_at_restore xs stay.0) =
-      ap (λ a. resident_of a (tile_at its.home.tile n)) its.key ∙ ap (λ u. resident_of c.act (tile_at u n)) its_tile
-      ∙ tile_set (λ v y. v ≡ t → resident_of c.act y ≡ Some (resident_at_restore xs stay.0)) t (λ d e. absurd (let z : (t == t) ≡ true = grind (arith, nat_tests) in cc)) (λ d e. its_stay) refl in
-      let was : resident_of its.home.act (tile_at its.home.tile m) ≡ Some stay.0 = ap (λ a. resident_of a (tile_at its.home.tile m)) its.key ∙ ap (λ u. resident_of c.act (tile_at u m)) its_tile ∙ stay.1 in
-      ap (actor_by its.home seat) now ∙ ap (λ o. record (actor_by its.home seat o) { moves = 0; yield_sent = false }) (sym was)
-
-  other_actor : (v : Home) → (its.home.act == v.act) ≡ false → actor_in n v ≡ actor_in m v
-  other_actor v d =
-      ap (actor_by v (entry_of v.act m.kernel))
-      (stay_either (λ a r. a ≡ v.act → r ≡ resident_of a (tile_at v.tile m)) v.act v.tile (λ e. refl)
-      (λ k e i. absurd (let z = its.key in let w : (its.home.act == v.act) ≡ true = grind (arith, nat_tests, k, z) in cc)) refl)
-
-  restore_places : placement_of h n ≡ places_take.new_stay (Some (actor_in m its.home)) (places_state.with_current t (Some c.act) q)
-  restore_places =
+  come_places : placement_of h n ≡ places_state.with_current t (Some c.act) q
+  come_places =
       let current = map-set current_act m.tiles t come in
-      let actors = sym (actors_then h m n its.home (record (actor_in m its.home) { moves = 0; yield_sent = false }) new_actor sound.setup.homes (ap (λ a. home_of a h) its.key ∙ its.found) other_actor) in
-      let links : tokens shorter ≡ set (tokens m.links) (16 * 0 + t) (map link_token qs) = map-set (λ xs. map link_token xs) m.links (16 * 0 + t) qs in
+      let links : tokens (set m.links (16 * 0 + t) qs) ≡ set (tokens m.links) (16 * 0 + t) (map link_token qs) = map-set (λ xs. map link_token xs) m.links (16 * 0 + t) qs in
+      let actors = map-same (actor_in n) (actor_in m) (λ v. actor-alike v (entry_of v.act m.kernel) (resident_of v.act (tile_at v.tile m)) (resident_of v.act (tile_at v.tile n)) (like v.act v.tile)) h.homes in
       λ k. record (placement_of h m) { current = current k; actors = actors k; links = links k }
 
-  step : machine_step h m (Event.Take t 0) None ≡ Some (record { outcome = record { made = None; said = Said.Current c.act; restore = None }; machine = n })
+  -- ---- its stay begins
+
+  abbrev begun : Resident
+  begun = resident_at_restore xs stay.0
+
+  now : tile_at t n ≡ come
+  now = tile_there (with_link 0 t qs m) t in_tiles come
+
+  come_here : (tile_at t n).current ≡ Some c
+  come_here = ap (λ (u : Tile). u.current) now
+
+  stay_there : resident_of c.act (tile_at t n) ≡ Some stay.0
+  stay_there = ap (resident_of c.act) now ∙ stay.1
+
+  abbrev restored : Machine
+  restored = with_part t (Tile_part (with_resident begun (with_current (Some c) (tile_at t m)))) (with_link 0 t qs m)
+
+  same : restayed h n t high come_sound c come_here stay.0 begun stay_there z_act ≡ restored
+  same = tile_again (with_link 0 t qs m) t in_tiles come (with_resident begun)
+
+  restored_sound : MachineStructure h restored
+  restored_sound = subst (MachineStructure h) same (restayed_sound h n t high come_sound c come_here stay.0 begun stay_there z_act)
+
+  its_actor : actor_in m its.home ≡ actor_by its.home (entry_of its.home.act m.kernel) (Some stay.0)
+  its_actor =
+      ap (actor_by its.home (entry_of its.home.act m.kernel))
+      (ap (λ a. resident_of a (tile_at its.home.tile m)) its.key ∙ ap (λ u. resident_of c.act (tile_at u m)) (sym (ap tile_in its.found) ∙ sym ok.2) ∙ stay.1)
+
+  restored_places : placement_of h restored ≡ places_take.new_stay (Some (actor_in m its.home)) (places_state.with_current t (Some c.act) q)
+  restored_places =
+      ap (placement_of h) (sym same)
+      ∙ restayed_places h n t high come_sound c come_here stay.0 begun stay_there z_act its.home its.found
+      ∙ ap (places_state.with_actor (actor_by its.home (entry_of its.home.act m.kernel) (Some begun))) come_places
+      ∙ ap (λ (x : PlacedActivity). places_take.new_stay (Some x) (places_state.with_current t (Some c.act) q)) (sym its_actor)
+
+  step : machine_step h m (Event.Take t 0) None ≡ Some (record { outcome = record { made = None; said = Said.Current c.act; restore = None }; machine = restored })
   step =
       let x = tile_at t m in
       let left = with_link 0 t qs m in
       take_step h m t 0 in_tiles in_links to_kernel no_kernel no_memory (Restore c.act c xs) qs g
       ∙ ap (λ o. done_by t left (Some (of_tile (take_restore h x c.act c xs o)))) nobody
       ∙ ap (λ b. done_by t left (Some (of_tile (cond (b && (is_named_context h c && has_bounded_counters c)) (after_restore x c xs (resident_of c.act x)) (dropped_result x))))) (itself c.act)
-      ∙ ap (λ b. done_by t left (Some (of_tile (cond (b && has_bounded_counters c) (after_restore x c xs (resident_of c.act x)) (dropped_result x))))) named
+      ∙ ap (λ b. done_by t left (Some (of_tile (cond (b && has_bounded_counters c) (after_restore x c xs (resident_of c.act x)) (dropped_result x))))) (inserted_each (λ c. is_named_context h c ≡ true) c moves.0 (all_contexts m) moves.1 sound.named)
       ∙ ap (λ b. done_by t left (Some (of_tile (cond b (after_restore x c xs (resident_of c.act x)) (dropped_result x))))) numbers
       ∙ ap (λ o. done_by t left (Some (of_tile (after_restore x c xs o)))) stay.1
 
@@ -272,11 +235,11 @@ module _ (h : Site) (m : Machine) (t : ℕ) (low : 2 ≤ t) (high : t < 16) (sou
       let s = ideal_of m in
       let link : places_state.link 0 t (placement_of h m) ≡ places_state.Restore c.act ∷ map link_token qs =
       get_or-map (λ xs. map link_token xs) m.links (16 * 0 + t) [] [] in_links ∙ ap (λ l. map link_token l) g in
-      let state : ideal_of n ≡ ideal_of m = restores_at m t 0 in_tiles in_links to_kernel c xs qs come g nobody refl sound.acts in
+      let state : ideal_of restored ≡ ideal_of m = ap ideal_of (sym same) ∙ restayed_state h n t high come_sound c come_here stay.0 begun stay_there z_act ∙ restores_at m t 0 in_tiles in_links to_kernel c xs qs come g nobody refl sound.acts in
       subst (Refines h m (Event.Take t 0) None) (sym step) (
         ap (λ l. places_take.take s (placement_of h m) t 0 l) link
             ∙ ap (λ b. cond b (places_take.take_at_kernel s q (places_state.Restore c.act)) (places_take.take_at_tile s q t (places_state.Restore c.act))) no_kernel
             ∙ ap (λ o. places_landing.step_outcome (Said.Current c.act) s (places_take.new_stay o (places_state.with_current t (Some c.act) q))) (find_actor m c.act h.homes its.home its.found)
-            ∙ (λ k. places_landing.step_outcome (Said.Current c.act) (sym state k) (sym restore_places k)),
-        restore_sound,
+            ∙ (λ k. places_landing.step_outcome (Said.Current c.act) (sym state k) (sym restored_places k)),
+        restored_sound,
       )

@@ -2,7 +2,7 @@
 use Rattle.std.proofs.Common.{◌≡◌, ℕ, ◌+◌, ◌*◌, ◌<◌, ◌≤◌, Bool, true, false, cond, List, [], ◌∷◌, ◌++◌, Some, None, refl, sym, subst, ◌∙◌, ap, arith, set, get_or, length, Option, inl}
 use Rattle.std.specs.Prelude.{◌==◌, is_some}
 use Rattle.std.proofs.lemmas.Bool.Decides.{nat_tests}
-use Rattle.std.proofs.lemmas.List.{set-get_or}
+use Rattle.std.proofs.lemmas.List.{set-get_or, length-set}
 use Rattle.m3_base.specs.declared.packet.Packet.{Packet}
 use Rattle.m3_base.specs.declared.event.Event.{Event}
 use Rattle.m3_base.specs.Lists.Keyed as keyed
@@ -18,16 +18,16 @@ use Rattle.m3_model.specs.Tile.State.{Resident, Tile}
 use Rattle.m3_model.specs.Config.KnownActivities.{is_home, is_named_context}
 use Rattle.m3_model.specs.Tile.Step.{resident_of, with_current, is_waiting_resident}
 use Rattle.m3_model.specs.Machine.{Machine, Tile_part, empty_tile, tile_at, link_at, with_link, with_part, with_parcels, machine_step}
-use Rattle.m3_model.specs.Abstraction.{flat_map, flat_links, option_list, tile_contexts, entry_contexts, contexts_in, packets_in, closed_in, held_by, all_contexts, all_packets, all_closed, is_in, current_act}
-use Rattle.m3_model.specs.Invariant.Distinct.{DistinctNames, DistinctClosed}
-use Rattle.m3_model.specs.Invariant.Housing.{IsPresent, HasHome, resident_at}
+use Rattle.m3_model.specs.Abstraction.{flat_map, flat_links, option_list, tile_contexts, entry_contexts, contexts_in, packets_in, closed_in, held_by, all_contexts, is_in, current_act}
+use Rattle.m3_model.specs.Invariant.Distinct.{DistinctClosed}
+use Rattle.m3_model.specs.Invariant.Housing.{HasHome, resident_at}
 use Rattle.m3_model.specs.Invariant.LinkWalk.{CurrentAlongLink, placed_on}
 use Rattle.m3_model.specs.Invariant.Parcels.{EndedFlagIs, HasDestination, ParcelOk}
-use Rattle.m3_model.specs.Invariant.Scheduling.{saves_in_flight}
+use Rattle.m3_model.specs.Invariant.Scheduling.{saves_in_flight, LinksLeadOn}
 use Rattle.m3_model.specs.Invariant.Structure.{MachineStructure}
 use Rattle.m3_model.specs.Refinement.{Refines}
 use Rattle.m3_refine.proofs.lists.Insertion.{Inserts, inserts_left, inserts_right, around_set, empties}
-use Rattle.m3_refine.proofs.abstraction.MoveWithinMachine.{moved, moved_none, moved_in, length-set}
+use Rattle.m3_refine.proofs.abstraction.MoveWithinMachine.{moved, moved_none, moved_in, SamePackets, SameClosed}
 use Rattle.m3_refine.proofs.abstraction.FindActor.{after_save, takes_save}
 use Rattle.m3_refine.proofs.events.take.RouteStep.{save_step}
 use Rattle.m3_refine.proofs.events.take.BounceStep.{bounce_step, bounces}
@@ -40,6 +40,7 @@ use Rattle.m3_refine.proofs.abstraction.PushParcel.{sending_sound, walks_elsewhe
 use Rattle.m3_refine.proofs.abstraction.ChangeContext.{Alike, alike-itself, ended-alike, there-alike}
 use Rattle.m3_refine.proofs.abstraction.ChangeCurrentContext.{parcel-alike, seat-alike}
 use Rattle.m3_refine.proofs.opening.HomesAndContexts.{some_there}
+use Rattle.m3_base.specs.Ideal.FlightNames.{Distinct}
 
 home_known : (h : Site) (a : ℕ) (y : Home) → home_of a h ≡ Some y → is_home h a ≡ true
 home_known h a y e = ap is_some e
@@ -117,10 +118,10 @@ module _ (h : Site) (m : Machine) (t : ℕ) (low : 2 ≤ t) (high : t < 16) (sou
       let enters : Inserts c old new = moved_in contexts_in m.links (16 * 0 + t) (16 * t + 0) (Save c.act) q qs in_links to_kernel g c refl refl in
       (us ++ (seats ++ old), inserts_right (seats ++ old) c us ts leaves, inserts_left us c (seats ++ old) (seats ++ new) (inserts_left seats c old new enters))
 
-  packets_same : all_packets n ≡ all_packets m
+  packets_same : SamePackets m n
   packets_same = ap (λ l. flat_map held_by m.kernel.seats ++ l) (moved_none packets_in m.links (16 * 0 + t) (16 * t + 0) (Save c.act) q qs in_links to_kernel g refl refl)
 
-  closed_same : all_closed n ≡ all_closed m
+  closed_same : SameClosed m n
   closed_same = moved_none closed_in m.links (16 * 0 + t) (16 * t + 0) (Save c.act) q qs in_links to_kernel g refl refl
 
   -- ---- links
@@ -143,7 +144,7 @@ module _ (h : Site) (m : Machine) (t : ℕ) (low : 2 ≤ t) (high : t < 16) (sou
       let y = push_leavings shorter t 0 high zero_low len q a in
       omega arith
 
-  walks' : (w : ℕ) → 2 ≤ w → w < 16 → CurrentAlongLink (current_act (tile_at w n)) (link_at 0 w n) (placed_on h w m.kernel)
+  walks' : LinksLeadOn h n m.kernel
   walks' w lo hi =
       subst (λ l. CurrentAlongLink (current_act (tile_at w n)) l (placed_on h w m.kernel)) (sym (push_kernel shorter t 0 high zero_low len q (omega arith) w hi)) (by_test (t == w) refl)
     where
@@ -181,7 +182,7 @@ module _ (h : Site) (m : Machine) (t : ℕ) (low : 2 ≤ t) (high : t < 16) (sou
         acts = moves_apart c moves.0 (all_contexts m) (all_contexts n) moves.1 moves.2 sound.acts;
         known = λ a k. moves_known c moves.0 (all_contexts m) (all_contexts n) moves.1 moves.2 a (sound.known a k);
         named = moves_each c moves.0 (all_contexts m) (all_contexts n) moves.1 moves.2 (λ c. is_named_context h c ≡ true) sound.named;
-        names = subst DistinctNames (sym packets_same) sound.names;
+        names = subst Distinct (sym packets_same) sound.names;
         housed = record {
           seats = sound.housed.seats;
           tiles = λ u k. tile_either m.tiles t in_tiles gone refl (λ v z. z.tile ≡ v) u (λ d. sound.housed.tiles u k) (λ d. sound.housed.tiles t high ∙ d);
@@ -247,7 +248,7 @@ module _ (h : Site) (m : Machine) (t : ℕ) (low : 2 ≤ t) (high : t < 16) (sou
       (walks_elsewhere h left t 0 high (omega arith) (Data p) left_sound (omega arith)) in
       let same : with_part t (Tile_part (tile_at t m)) left ≡ left = (λ k. record left { tiles = set-get_or m.tiles t (empty_tile t) k }) in
       subst (Refines h m (Event.Take t from) None) (sym (bounce_step h m t from ht hi hj t0 t1 p qs g away' aim.0 aim.1))
-      (bounces h m t from ht hi hj t0 t1 p qs g away' sound.names, subst (λ k. MachineStructure h (with_parcels t ((0, Data p) ∷ []) k)) (sym same) sent)
+      (bounces h m t from ht hi hj t0 t1 p qs g away' aim.0 aim.1 sound.names, subst (λ k. MachineStructure h (with_parcels t ((0, Data p) ∷ []) k)) (sym same) sent)
     where
       -- a read or a write goes to the memory
       aims : (o : Option ℕ) → HasDestination h t o → 2 ≤ t → (a : ℕ) × (o ≡ Some a)

@@ -1,15 +1,15 @@
 -- The front of a hold list is applied to the context in the kernel: what it does to the machine, before anything is emitted.
-use Rattle.std.proofs.Common.{◌≡◌, ℕ, ◌+◌, Bool, true, false, cond, List, [], ◌∷◌, ◌++◌, Some, None, refl, sym, subst, ◌∙◌, ap, arith, append_assoc, set, get_or, map}
+use Rattle.std.proofs.Common.{◌≡◌, ℕ, ◌+◌, Bool, true, false, List, [], ◌∷◌, ◌++◌, Some, None, refl, sym, subst, ◌∙◌, ap, arith, append_assoc, map}
 use Rattle.std.specs.Prelude.{◌==◌, ◌&&◌, ◌||◌}
 use Rattle.std.proofs.lemmas.Bool.Decides.{nat_tests}
 use Rattle.m3_base.specs.declared.packet.Packet.{Packet}
 use Rattle.m3_base.specs.Lists.Keyed as keyed
 use Rattle.m3_base.specs.Lists.Counting.{one, how_many}
-use Rattle.m3_base.specs.Ideal.Flights.{name_of, flight, new_flight}
+use Rattle.m3_base.specs.Ideal.Flights.{name_of, flight, new_flight, sorted_by_name}
 use Rattle.m3_base.specs.Ideal.Context.{Context}
 use Rattle.m3_base.specs.Ideal.State.{context_of, put_context, same_act}
 use Rattle.m3_base.specs.Placement.State as places_state
-use Rattle.m3_base.specs.Placement.State.{Placement, PlacedActivity, with_member}
+use Rattle.m3_base.specs.Placement.State.{Placement}
 use Rattle.m3_base.specs.Lists.EachElement.{Each}
 use Rattle.m3_merge.proofs.MergedIsRun.{each_map}
 use Rattle.m3_merge.proofs.StampBounds.{each_back}
@@ -18,25 +18,25 @@ use Rattle.m3_model.specs.Tile.State.{Tile}
 use Rattle.m3_model.specs.Kernel.State.{SavedActivity, EntryResidency, Is_resting, Is_coming, ActivityEntry, Kernel}
 use Rattle.m3_model.specs.Config.KnownActivities.{is_named_context}
 use Rattle.m3_model.specs.Tile.Step.{resident_of}
-use Rattle.m3_model.specs.Kernel.Step.{entry_act, entry_of, join_ready, after_packet, is_placed_entry, is_leaving_entry, is_coming_entry, is_leaving_at}
+use Rattle.m3_model.specs.Kernel.Step.{entry_act, entry_of, after_packet, is_placed_entry, is_leaving_entry, is_coming_entry, is_leaving_at}
 use Rattle.m3_model.specs.Machine.{Machine, tile_at, link_at}
-use Rattle.m3_model.specs.Abstraction.{flat_map, flat_links, tile_contexts, entry_contexts, residency_contexts, held_by, contexts_in, packets_in, all_contexts, all_packets, all_closed, sorted_by_name, closed_from, ideal_of, actor_in, actor_by, current_act, residency_of, placement_of}
-use Rattle.m3_model.specs.Invariant.Scheduling.{is_placed_at, is_coming_at, is_leaving_of, EntryOk, HoldOk}
+use Rattle.m3_model.specs.Abstraction.{flat_map, flat_links, tile_contexts, entry_contexts, residency_contexts, held_by, contexts_in, packets_in, all_contexts, all_packets, all_closed, closed_from, ideal_of, actor_in, actor_by, current_act, residency_of, placement_of}
+use Rattle.m3_model.specs.Invariant.Scheduling.{is_placed_at, is_coming_at, is_leaving_of, EntryOk, HoldOk, EntriesOk}
 use Rattle.m3_model.specs.Invariant.Parcels.{is_here_entry, EndedFlagIs, ParcelOk}
 use Rattle.m3_model.specs.Invariant.Housing.{resident_at}
 use Rattle.m3_model.specs.Invariant.LinkWalk.{CurrentAlongLink}
 use Rattle.m3_model.specs.Invariant.Structure.{MachineStructure}
 use Rattle.m3_refine.proofs.lists.Insertion.{Inserts, inserts_right}
 use Rattle.m3_refine.proofs.lists.Replacement.{around_replaced}
-use Rattle.m3_refine.proofs.abstraction.MoveWithinMachine.{by_name-inserts}
+use Rattle.m3_refine.proofs.abstraction.MoveWithinMachine.{by_name-inserts, IsInFlight}
 use Rattle.m3_refine.proofs.abstraction.MoveContext.{name_inserts, apart_inserts}
 use Rattle.m3_refine.proofs.abstraction.FindActor.{context_at}
 use Rattle.m3_refine.proofs.events.take.BounceStep.{packet_at, name-by_name}
 use Rattle.m3_refine.proofs.abstraction.PopParcel.{names_drop}
 use Rattle.m3_refine.proofs.abstraction.ChangeContext.{Swaps, swaps_state, swaps_apart, swaps_known, swaps_each}
-use Rattle.m3_refine.proofs.abstraction.EntriesMatchActors.{SeatOf, order_replaced, seat_tile}
-use Rattle.m3_refine.proofs.abstraction.ReplaceEntry.{seat_then, seat_now, seat_counts, placed_still, parcel_kernel, actors_then}
-use Rattle.m3_refine.proofs.events.take.KernelTakesSaved.{ready_then}
+use Rattle.m3_refine.proofs.abstraction.EntriesMatchActors.{SeatOf, order_replaced, seat_tile, IsEntryOf, seat_entry}
+use Rattle.m3_refine.proofs.abstraction.ReplaceEntry.{seat_then, seat_now, seat_counts, placed_still, parcel_kernel, actors_then, StaysHere}
+use Rattle.m3_refine.proofs.events.take.KernelTakesSaved.{ready_then, ready_places}
 
 abbrev pub sits_as : Bool → SavedActivity → EntryResidency
 sits_as true y = Is_resting y
@@ -65,14 +65,6 @@ seat_away h ts x false y z e k o = (e ∙ o.0, subst (λ d. EndedFlagIs d (resid
 pub act_away : (h : Site) (ts : List Tile) (x : ActivityEntry) (b : Bool) (y : SavedActivity) → EntryOk h ts x (sits_as b y) → y.context.act ≡ x.act
 act_away h ts x true y o = o.0
 act_away h ts x false y o = o.0
-
-pub ready_kernel : (b : Bool) (t a : ℕ) (k : Kernel) → join_ready b t a k ≡ record k { ready = ready_then b t a k.ready }
-ready_kernel true t a k = refl
-ready_kernel false t a k = refl
-
-pub ready_places : (b : Bool) (t a : ℕ) (p : Placement) → places_state.join_ready b t a p ≡ record p { ready = ready_then b t a p.ready }
-ready_places true t a p = refl
-ready_places false t a p = refl
 
 -- the context of an activity that is away
 module _ (h : Site) (m : Machine) (sound : MachineStructure h m) (x : ActivityEntry) (y : Home) (s : SeatOf h m.kernel x y) (b : Bool) (w : SavedActivity) (sits : x.seating ≡ sits_as b w) where
@@ -111,8 +103,8 @@ module _ (h : Site) (m : Machine) (sound : MachineStructure h m) (x : ActivityEn
   abbrev pub applying : Machine
   applying = record m { kernel = kernel_applied }
 
-  there : keyed.find entry_act same_act x.act m.kernel.seats ≡ Some x
-  there = ap (λ n. keyed.find entry_act same_act n m.kernel.seats) s.act ∙ s.seat
+  there : IsEntryOf m.kernel x
+  there = seat_entry h m.kernel x y s
 
   old : EntryOk h m.tiles x x.seating × Each (HoldOk h x.act) x.hold
   old = sound.seated.seats x.act x there
@@ -147,7 +139,7 @@ module _ (h : Site) (m : Machine) (sound : MachineStructure h m) (x : ActivityEn
   pub applied_flights : (ideal_of m).flights ≡ new_flight p (ideal_of applying).flights
   applied_flights = by_name-inserts p (all_packets applying) (all_packets m) applied_packet applied_absent
 
-  pub applied_flies : flight (name_of p) (ideal_of m).flights ≡ Some p
+  pub applied_flies : IsInFlight m p
   applied_flies = packet_at p (all_packets applying) (all_packets m) applied_packet applied_absent
 
   pub applied_state : ideal_of applying ≡ record (ideal_of m) { contexts = put_context c (ideal_of m).contexts; flights = (ideal_of applying).flights }
@@ -178,7 +170,7 @@ module _ (h : Site) (m : Machine) (sound : MachineStructure h m) (x : ActivityEn
   counts : (q : ActivityEntry → Bool) → one (q applied) ≡ one (q x) → how_many q kernel_applied.seats ≡ how_many q m.kernel.seats
   counts q e = let k = seat_counts m.kernel.seats x applied there refl q in omega arith
 
-  seats' : (a : ℕ) (z : ActivityEntry) → entry_of a kernel_applied ≡ Some z → EntryOk h m.tiles z z.seating × Each (HoldOk h z.act) z.hold
+  seats' : EntriesOk h m.tiles kernel_applied
   seats' a z e =
       seat_then m.kernel.seats x applied there refl (λ n o. o ≡ Some z → EntryOk h m.tiles z z.seating × Each (HoldOk h z.act) z.hold) a
       (λ d k. sound.seated.seats a z k)
@@ -194,7 +186,7 @@ module _ (h : Site) (m : Machine) (sound : MachineStructure h m) (x : ActivityEn
       seat_then m.kernel.seats x applied there refl (λ n o. is_leaving_of o ≡ is_leaving_of (keyed.find entry_act same_act n m.kernel.seats)) a (λ d. refl)
       (λ d. sym leaving_same' ∙ sym (ap is_leaving_of (ap (λ n. keyed.find entry_act same_act n m.kernel.seats) d ∙ there)))
 
-  here_still : (a : ℕ) → is_here_entry (entry_of a m.kernel) ≡ true → is_here_entry (entry_of a kernel_applied) ≡ true
+  here_still : StaysHere m.kernel kernel_applied
   here_still a =
       seat_then m.kernel.seats x applied there refl (λ n o. is_here_entry (keyed.find entry_act same_act n m.kernel.seats) ≡ true → is_here_entry o ≡ true) a (λ d k. k)
       (λ d k. (λ i. sym placed_same' i || sym leaving_same' i) ∙ sym (ap is_here_entry (ap (λ n. keyed.find entry_act same_act n m.kernel.seats) d ∙ there)) ∙ k)

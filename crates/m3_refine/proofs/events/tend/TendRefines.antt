@@ -10,7 +10,7 @@ use Rattle.m3_base.specs.declared.event.IdleWhy.{IdleWhy}
 use Rattle.m3_base.specs.Ideal.Flights.{name_of, flight}
 use Rattle.m3_base.specs.Ideal.Context.{Context, endpoint}
 use Rattle.m3_base.specs.Ideal.Landing.{has_closing}
-use Rattle.m3_base.specs.Ideal.State.{Grant, State, context_of, put_context, grant_in}
+use Rattle.m3_base.specs.Ideal.State.{State, context_of, put_context, grant_in}
 use Rattle.m3_base.specs.Ideal.Step.{with_packet}
 use Rattle.m3_base.specs.Ideal.Arrival.{Arrival, arrive}
 use Rattle.m3_base.specs.Ideal.Acceptance.{fits, arrive_fit}
@@ -29,12 +29,12 @@ use Rattle.m3_model.specs.Kernel.State.{SavedActivity, EntryResidency, Is_placed
 use Rattle.m3_model.specs.LocalStep.{LocalResult, idle_result, closed_out}
 use Rattle.m3_model.specs.Config.KnownActivities.{is_home, is_named_context}
 use Rattle.m3_model.specs.Tile.Step.{resident_of}
-use Rattle.m3_model.specs.Kernel.Step.{entry_of, with_entry, join_ready, Routed, answer_routed, arrived_context, after_packet, after_tend, tend_arrived, tend_away, tend_front, tend_entry, tend_by, is_under_close}
+use Rattle.m3_model.specs.Kernel.Step.{entry_of, with_entry, join_ready, Routed, answer_routed, arrived_context, after_packet, after_tend, tend_arrived, tend_away, tend_front, tend_entry, tend_by}
 use Rattle.m3_model.specs.Machine.{Machine, tile_at, link_at, with_parcel, with_parcels, machine_step, done_by, of_kernel}
 use Rattle.m3_model.specs.Abstraction.{all_packets, all_closed, ideal_of, residency_of, actor_in, actor_by, current_act, placement_of}
-use Rattle.m3_model.specs.Invariant.Housing.{IsPresent, resident_at}
+use Rattle.m3_model.specs.Invariant.Housing.{resident_at}
 use Rattle.m3_model.specs.Invariant.Parcels.{EndedFlagIs}
-use Rattle.m3_model.specs.Invariant.IdealFacts.{HeldThere, is_open, IdealFacts}
+use Rattle.m3_model.specs.Invariant.IdealFacts.{IdealFacts}
 use Rattle.m3_model.specs.Invariant.Structure.{CloseWasSent, MachineStructure}
 use Rattle.m3_model.specs.Invariant.Scheduling.{EntryOk, HoldOk}
 use Rattle.m3_model.specs.Invariant.LinkWalk.{CurrentAlongLink, placed_on}
@@ -47,13 +47,15 @@ use Rattle.m3_refine.proofs.arrival.ArriveIsLandAll.{after_arrival, came_as, nam
 use Rattle.m3_refine.proofs.arrival.ArriveKeeps.{AnswerOk, FreedBy, KeptBy, arrive_keeps}
 use Rattle.m3_refine.proofs.arrival.KeepsKnownActivities.{NamedIf, NamedBy, arrive_names}
 use Rattle.m3_refine.proofs.abstraction.ClosedGrants.{closes_one, open_grant}
-use Rattle.m3_refine.proofs.arrival.AnswerAndClosed.{ShutsIf, Shuts, Emits, named_target}
+use Rattle.m3_refine.proofs.arrival.AnswerAndClosed.{ShutsIf, Shuts, Emits, named_target, under_close}
 use Rattle.m3_refine.proofs.arrival.CurrentContext.{fits_arrives}
 use Rattle.m3_refine.proofs.abstraction.EntriesMatchActors.{actor_place, actor_hold, seat_tile}
 use Rattle.m3_refine.proofs.events.take.RouteRefines.{KnownActivity, known_activity, route_is}
 use Rattle.m3_refine.proofs.events.take.RestoreGoesOut.{Restores, then_restores, next_one, next_same}
-use Rattle.m3_refine.proofs.events.tend.ApplyHeldPacket.{sits_as, ready_kernel, applying, applied_absent, applied_apart, applied_flights, applied_flies, away_found, away_each, applied_state, applied_sound, applied_places}
+use Rattle.m3_refine.proofs.events.tend.ApplyHeldPacket.{sits_as, applying, applied_absent, applied_apart, applied_flights, applied_flies, away_found, away_each, applied_state, applied_sound, applied_places}
 use Rattle.m3_refine.proofs.opening.HomesAndContexts.{some_there}
+use Rattle.m3_base.specs.Ideal.GrantHolder.{HeldThere}
+use Rattle.m3_refine.proofs.events.take.KernelTakesSaved.{ready_kernel}
 
 -- ---- what the kernel emits
 
@@ -69,16 +71,13 @@ pushed_append : (t : ℕ) (xs ys : List (ℕ × Parcel)) (m : Machine) → with_
 pushed_append t [] ys m = refl
 pushed_append t (x ∷ xs) ys m = pushed_append t xs ys (with_parcel t x m)
 
-is_under : (x : Grant) → is_open x.standing ≡ true → x.close_sent ≡ true → is_under_close x ≡ true
-is_under x o e = grind (arith, o, e)
-
 -- the kernel's own Closed
 kernel_closed : (h : Site) (m : Machine) → MachineStructure h m → (o : Option ℕ) → ShutsIf (ideal_of m).grants o
     → Emits h m (with_parcels 0 (closed_out o) m) (ideal_of m).flights (grants_after o (ideal_of m).grants) (push_closed 0 o (placement_of h m))
 kernel_closed h m sound None ok = record { sound = sound; state = refl; places = refl }
 kernel_closed h m sound (Some g) ok =
     let o = open_grant (all_closed m) g m.kernel.grants ok.grant ok.found ok.stands in
-    let shut : CloseWasSent (grant_in m.kernel.grants g) = subst CloseWasSent (sym o.1) (is_under ok.grant ok.stands ok.sent) in
+    let shut : CloseWasSent (grant_in m.kernel.grants g) = subst CloseWasSent (sym o.1) (under_close ok.grant ok.stands ok.sent) in
     let n = with_parcel 0 (0, Closed g) m in
     let low : 0 < 16 = omega arith in
     let walk : (w : ℕ) → 2 ≤ w → w < 16 → CurrentAlongLink (current_act (tile_at w m)) (link_at 0 w n) (placed_on h w m.kernel) =
