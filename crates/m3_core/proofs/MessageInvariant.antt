@@ -7,17 +7,14 @@ use Rattle.m3_base.specs.declared.message.Header.{Header}
 use Rattle.m3_base.specs.declared.message.Message.{Message}
 use Rattle.m3_base.specs.declared.command.Refusal.{Refusal}
 use Rattle.m3_base.specs.Ideal.Context.{Fetched, ReceiveRecord}
-use Rattle.m3_base.specs.Ideal.ReceiveRecord.{with_unread, fetched_at, unmarked_message, without_token, with_mark, without_fetched, with_mark_at}
+use Rattle.m3_base.specs.Ideal.ReceiveRecord.{with_unread, fetched_at, unmarked_message, without_token, with_mark, without_fetched, with_mark_at, fetched_one}
 use Rattle.m3_base.specs.Ideal.Issue.{wants_no_reply}
 use Rattle.m3_base.specs.Ideal.Acceptance.{is_message, is_header}
-use Rattle.m3_endpoint.specs.ReceiveOps.{closing_one, after_fetch, fetched_one, unmarked_at, header_or_refusal, reply_header, with_reply_mark}
+use Rattle.m3_endpoint.specs.ReceiveOps.{closing_one, after_fetch, unmarked_at, header_or_refusal, reply_header, with_reply_mark}
 use Rattle.m3_endpoint.specs.declared.endpoint.Record.{Record}
 use Rattle.m3_core.specs.SlotView.{IsKeptBy}
 use Rattle.m3_core.specs.MessageInvariant.{is_sound_fetched, IsSoundIn, HasSender, HasReplyPlace}
-
-and_left : (a b : Bool) → (a && b) ≡ true → a ≡ true
-and_left true b h = refl
-and_left false b h = h
+use Rattle.std.proofs.lemmas.Bool.{and_parts}
 
 all-push : {X : Type 0} (p : X → Bool) (xs : List X) (x : X) → list_all p xs ≡ true → p x ≡ true → list_all p (xs ++ x ∷ []) ≡ true
 all-push p [] x h g = grind arith
@@ -79,7 +76,7 @@ fetched_sound (Some r) h = fetched_one-sound r r.unread h.0 h.1
 -- ---- what the headers of sound messages say
 
 header_in : (m : Message) → is_message m ≡ true → is_header m.header ≡ true
-header_in m s = and_left (is_header m.header) (m.header.length == length m.payload) s
+header_in m s = (and_parts (is_header m.header) (m.header.length == length m.payload) s).0
 
 has_sender : (h : Header) → is_header h ≡ true → HasSender h
 has_sender h s = (grind (arith, nat_tests), grind (arith, nat_tests))

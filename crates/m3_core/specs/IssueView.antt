@@ -8,8 +8,8 @@ use Rattle.m3_base.specs.Ideal.Context.{Context, endpoint}
 use Rattle.m3_base.specs.Ideal.Issue.{Gives, Flies, immediate_reply, or_else, no_endpoint, is_bad_reply, reply_grant}
 use Rattle.m3_base.specs.Ideal.Issue.{Issued as Issue}
 use Rattle.m3_core.specs.declared.issued.Issued.{Issued}
-use Rattle.m3_core.specs.declared.context.issue.ReplyPlace.{ReplyPlace}
-use Rattle.m3_core.specs.EndpointStep.{oldest_at}
+use Rattle.m3_base.specs.Ideal.EndpointStep.{oldest_at}
+use Rattle.m3_core.specs.declared.context.issue.ReplyTo.{ReplyTo}
 
 -- the message that a fetch takes
 abbrev pub oldest : Context → Command → Option Message
@@ -27,5 +27,5 @@ issued_by (Some m) (Issued.Fetched (Some token)) c = Some (immediate_reply c (Re
 issued_by None (Issued.Fetched (Some token)) c = None
 
 -- what a send's header says of its reply endpoint
-abbrev pub reply_place : Context → Option ℕ → ReplyPlace
-reply_place c reply = record { ep = or_else reply no_endpoint; grant = reply_grant c reply; is_bad = is_bad_reply c reply }
+abbrev pub reply_to : Context → Option ℕ → ReplyTo
+reply_to c reply = record { ep = or_else reply no_endpoint; grant = reply_grant c reply; is_bad = is_bad_reply c reply }

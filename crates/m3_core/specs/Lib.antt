@@ -4,6 +4,5 @@ pub mod ContextView
 pub mod ArrivalView
 pub mod Preconditions
 pub mod IssueView
-pub mod Positions
 pub mod EndpointStep
 pub mod MessageInvariant

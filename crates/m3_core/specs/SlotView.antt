@@ -8,7 +8,7 @@ use Rattle.m3_core.specs.MessageInvariant.{IsSoundIn}
 use Rattle.m3_core.specs.declared.slot.Slot.TheInside.{Inside}
 
 abbrev pub slot_endpoint : Inside → Endpoint
-slot_endpoint s = endpoint_of s.occupant
+slot_endpoint s = endpoint_of s.installed
 
 abbrev pub IsSpare : Option (Option ReceiveRecord) → Type 0
 IsSpare spare = spare ≡ Some None
@@ -20,4 +20,4 @@ IsKeptBy (Record.Receive r) spare = IsSoundIn r
 IsKeptBy (Record.Memory r) spare = IsSpare spare
 
 abbrev pub IsKept : Inside → Type 0
-IsKept s = IsKeptBy s.occupant s.spare
+IsKept s = IsKeptBy s.installed s.preallocated

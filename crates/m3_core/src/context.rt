@@ -12,7 +12,8 @@ ghost use Rattle.m3_core.specs.FlyingView.{kind_of};
 ghost use Rattle.m3_base.specs.Ideal.Acceptance.{is_form};
 ghost use Rattle.m3_endpoint.specs.RecordView.{endpoint_of};
 ghost use Rattle.m3_core.specs.MessageInvariant.{IsSoundRecord};
-ghost use Rattle.m3_core.specs.EndpointStep.{oldest_at, fetched_message_at};
+ghost use Rattle.m3_core.specs.EndpointStep.{fetched_message_at};
+ghost use Rattle.m3_base.specs.Ideal.EndpointStep.{oldest_at};
 
 use crate::flying::{Flying, Kind};
 use crate::slot::Slot;
@@ -81,6 +82,7 @@ impl Context {
     }
 
     /// The number of its next flight.
+    #[inline(always)]
     pub fn next_number(&self) -> u32
         ensures { result ≡ self.now.next }
     {
@@ -88,6 +90,7 @@ impl Context {
     }
 
     /// Its commands that fly, in the order of their numbers: at most one.
+    #[inline(always)]
     pub fn flying(&self) -> &[Flying]
         ensures same { result.now ≡ self.now.flying }
         ensures few { length self.now.flying ≤ window }
@@ -97,15 +100,17 @@ impl Context {
 
     /// The record of an endpoint. A receive record there is used, and each of its messages is in the ranges of a header
     /// and has its header's length.
+    #[inline(always)]
     pub fn endpoint(&self, ep: EpId) -> &Record
         ensures same { endpoint_of result.now ≡ endpoint self.now ep }
         ensures sound { IsSoundRecord result.now }
         ensures count { length self.now.endpoints ≡ 16 }
     {
-        self.slots[ep.number() as usize].occupant()
+        self.slots[ep.number() as usize].installed()
     }
 
     /// The oldest unread message of an endpoint. None exactly where it has no receive record, or none is unread there.
+    #[inline(always)]
     pub fn front(&self, ep: EpId) -> Option<&Message>
         ensures { option_copied result ≡ oldest_at (endpoint self.now ep) }
     {
@@ -114,6 +119,7 @@ impl Context {
 
     /// The fetched message of this token, marked or not. None exactly where the endpoint has no receive record, or no
     /// message of this token is fetched there.
+    #[inline(always)]
     pub fn fetched(&self, ep: EpId, token: u32) -> Option<&Message>
         ensures { option_copied result ≡ fetched_message_at token (endpoint self.now ep) }
     {
@@ -121,6 +127,7 @@ impl Context {
     }
 
     /// Whether as many commands fly as may.
+    #[inline(always)]
     pub fn busy(&self) -> bool
         ensures { result ≡ is_busy self.now }
     {
@@ -137,6 +144,7 @@ impl Context {
     }
 
     /// The name of its next flight.
+    #[inline(always)]
     fn next_id(&self) -> FlightId
         ensures { result ≡ next_id self.now }
     {
@@ -147,6 +155,7 @@ impl Context {
     }
 
     /// One more command flies.
+    #[inline(always)]
     fn launch(&mut self, kind: Kind, ep: EpId, token: u32)
         requires room { is_busy self.old ≡ false }
         requires number { self.old.next < 4294967295 }
@@ -154,9 +163,7 @@ impl Context {
     {
         let number = self.next;
         self.next += 1;
-        match self.flying.push(Flying::new(number, kind, ep, token)) {
-            Ok(()) => {}
-            Err(_) => unreachable!(),
-        }
+        self.flying
+            .push_reserved(Flying::new(number, kind, ep, token));
     }
 }

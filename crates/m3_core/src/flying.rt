@@ -37,6 +37,7 @@ impl Model for Flying {
 
 impl Flying {
     /// A flying command.
+    #[inline(always)]
     pub fn new(number: u32, kind: Kind, ep: EpId, token: u32) -> Flying
         ensures { result ≡ record { number = number; kind = kind_of kind; ep = ep; token = token } }
     {
@@ -49,6 +50,7 @@ impl Flying {
     }
 
     /// Its flight's number.
+    #[inline(always)]
     pub fn number(&self) -> u32
         ensures { result ≡ self.now.number }
     {
@@ -56,6 +58,7 @@ impl Flying {
     }
 
     /// Its kind.
+    #[inline(always)]
     pub fn kind(&self) -> Kind
         ensures { kind_of result ≡ self.now.kind }
     {
@@ -63,6 +66,7 @@ impl Flying {
     }
 
     /// Its endpoint.
+    #[inline(always)]
     pub fn ep(&self) -> EpId
         ensures { result ≡ self.now.ep }
     {
@@ -70,6 +74,7 @@ impl Flying {
     }
 
     /// The token of the message that it replies to, or 0.
+    #[inline(always)]
     pub fn token(&self) -> u32
         ensures { result ≡ self.now.token }
     {

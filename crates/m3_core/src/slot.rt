@@ -23,7 +23,7 @@ use std::mem;
 
 /// Where a send goes, and what its header takes from the record.
 #[derive(Clone, Copy, Debug, Drop)]
-pub struct Target {
+pub struct SendTarget {
     pub to: ActId,
     pub ep: EpId,
     pub grant: GrantId,
@@ -33,7 +33,7 @@ pub struct Target {
 
 /// The place in memory of a read or write, and its grant.
 #[derive(Clone, Copy, Debug, Drop)]
-pub struct Place {
+pub struct AccessTarget {
     pub grant: GrantId,
     pub at: u32,
 }
@@ -41,8 +41,8 @@ pub struct Place {
 /// One endpoint. Its receive record is there from the start, so that an Install takes no memory.
 #[derive(Drop)]
 pub struct Slot {
-    occupant: Record,
-    spare: Option<ReceiveEp>,
+    installed: Record,
+    preallocated: Option<ReceiveEp>,
 }
 
 impl Model for Slot {
@@ -64,34 +64,37 @@ impl Slot {
     {
         let spare = ReceiveEp::new(alloc)?;
         Ok(Slot {
-            occupant: Record::Free,
-            spare: Some(spare),
+            installed: Record::Free,
+            preallocated: Some(spare),
         })
     }
 
     /// Its record.
-    pub fn occupant(&self) -> &Record
+    #[inline(always)]
+    pub fn installed(&self) -> &Record
         ensures same { endpoint_of result.now ≡ self.now }
         ensures sound { IsSoundRecord result.now }
     {
-        &self.occupant
+        &self.installed
     }
 
     /// Whether it has no record.
+    #[inline(always)]
     pub fn is_free(&self) -> bool
         ensures { result ≡ is_free self.now }
     {
-        match &self.occupant {
+        match &self.installed {
             Record::Free => true,
             _ => false,
         }
     }
 
     /// The grant of its record.
+    #[inline(always)]
     pub fn grant(&self) -> Option<GrantId>
         ensures { result ≡ grant_of self.now }
     {
-        match &self.occupant {
+        match &self.installed {
             Record::Free => None,
             Record::Send(r) => Some(r.grant()),
             Record::Receive(r) => Some(r.grant()),
@@ -100,10 +103,11 @@ impl Slot {
     }
 
     /// Whether its record is closing.
+    #[inline(always)]
     pub fn is_closing(&self) -> bool
         ensures { result ≡ is_closing self.now }
     {
-        match &self.occupant {
+        match &self.installed {
             Record::Free => false,
             Record::Send(r) => r.closing(),
             Record::Receive(r) => r.closing(),
@@ -112,6 +116,7 @@ impl Slot {
     }
 
     /// Whether it has a live record of this grant.
+    #[inline(always)]
     pub fn has_live(&self, grant: GrantId) -> bool
         ensures { result ≡ has_live grant self.now }
     {
@@ -122,10 +127,11 @@ impl Slot {
     }
 
     /// The grant of its live receive record.
+    #[inline(always)]
     pub fn live_receive(&self) -> Option<GrantId>
         ensures { result ≡ live_receive self.now }
     {
-        match &self.occupant {
+        match &self.installed {
             Record::Receive(r) => { if r.closing() { None } else { Some(r.grant()) } }
             _ => None,
         }
@@ -138,12 +144,12 @@ impl Slot {
         ensures { self.new ≡ new_endpoint fresh.now }
     {
         match fresh {
-            Fresh::Send { .. } => self.occupant = Record::Send(SendEp::new(fresh)),
-            Fresh::Memory { .. } => self.occupant = Record::Memory(MemEp::new(fresh)),
-            Fresh::Receive { grant, slots, size } => match self.spare.take() {
+            Fresh::Send { .. } => self.installed = Record::Send(SendEp::new(fresh)),
+            Fresh::Memory { .. } => self.installed = Record::Memory(MemEp::new(fresh)),
+            Fresh::Receive { grant, slots, size } => match self.preallocated.take() {
                 Some(mut r) => {
                     r.open(*grant, *slots, *size);
-                    self.occupant = Record::Receive(r);
+                    self.installed = Record::Receive(r);
                 }
                 None => unreachable!(),
             },
@@ -154,10 +160,10 @@ impl Slot {
     pub fn free(&mut self)
         ensures { self.new ≡ Free }
     {
-        match mem::replace(&mut self.occupant, Record::Free) {
+        match mem::replace(&mut self.installed, Record::Free) {
             Record::Receive(mut r) => {
                 r.shut();
-                self.spare = Some(r);
+                self.preallocated = Some(r);
             }
             _ => {}
         }
@@ -167,7 +173,7 @@ impl Slot {
     pub fn close(&mut self)
         ensures { self.new ≡ closed_at self.old }
     {
-        match &mut self.occupant {
+        match &mut self.installed {
             Record::Free => {}
             Record::Send(r) => r.close(),
             Record::Receive(r) => r.close(),

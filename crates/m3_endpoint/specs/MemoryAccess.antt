@@ -1,14 +1,8 @@
 -- What a memory record permits.
 use Rattle.std.specs.Prelude.{ℕ, ◌+◌, Bool, true, false, not, nat_lt, [], ◌∷◌, Option, Some, None, Result, Ok, Err}
 use Rattle.m3_base.specs.declared.command.Refusal.{Refusal}
-use Rattle.m3_base.specs.declared.packet.Perm.{Perm}
 use Rattle.m3_base.specs.Ideal.Context.{MemoryRecord}
-use Rattle.m3_base.specs.Ideal.Issue.{first_of, may_read, may_write}
-
--- a write, or a read, is permitted
-abbrev pub permits : Bool → Perm → Bool
-permits true perm = may_write perm
-permits false perm = may_read perm
+use Rattle.m3_base.specs.Ideal.Issue.{first_of, permits}
 
 abbrev pub range_refusal : MemoryRecord → ℕ → ℕ → Bool → Option Refusal
 range_refusal r off len write =

@@ -1,18 +1,13 @@
 -- What the calls of a receive record answer and leave.
-use Rattle.std.specs.Prelude.{ℕ, ◌+◌, ◌<◌, Bool, true, false, List, [], ◌∷◌, length, slice_get, Option, Some, None, Result, Ok, Err, option_map, if◌then◌else◌}
+use Rattle.std.specs.Prelude.{ℕ, ◌+◌, ◌<◌, Bool, true, false, [], ◌∷◌, length, slice_get, Option, Some, None, Result, Ok, Err, option_map, if◌then◌else◌}
 use Rattle.m3_base.specs.declared.message.Header.{Header}
 use Rattle.m3_base.specs.declared.message.Message.{Message}
 use Rattle.m3_base.specs.declared.command.Refusal.{Refusal}
 use Rattle.m3_base.specs.Ideal.Context.{Fetched, ReceiveRecord}
-use Rattle.m3_base.specs.Ideal.ReceiveRecord.{is_full, with_fetched, fetched_at, unmarked_message, without_fetched, with_mark_at}
+use Rattle.m3_base.specs.Ideal.ReceiveRecord.{is_full, fetched_at, unmarked_message, without_fetched, with_mark_at, fetched_token, fetched_one, has_mark}
 use Rattle.m3_base.specs.Ideal.Issue.{wants_no_reply}
 use Rattle.m3_base.specs.Lists.Counting.{how_many}
 use Rattle.m3_base.specs.Ideal.Credits.{is_sent_by, is_owed}
-
--- a record with no message yet
-abbrev pub empty_record : ℕ → ℕ → ℕ → ReceiveRecord
-empty_record grant slots size =
-    record { grant = grant; slots = slots; size = size; unread = []; fetched = []; next_token = 0; closing = false }
 
 abbrev pub closing_one : ReceiveRecord → ReceiveRecord
 closing_one r = record r { closing = true }
@@ -25,14 +20,6 @@ is_full_one (Some r) = is_full r
 abbrev pub HasToken : Option ReceiveRecord → Type 0
 HasToken None = Unit {0}
 HasToken (Some r) = r.next_token < 4294967295
-
-abbrev pub fetched_token : ReceiveRecord → List Message → Option ℕ
-fetched_token r [] = None
-fetched_token r (m ∷ rest) = Some r.next_token
-
-abbrev pub fetched_one : ReceiveRecord → List Message → ReceiveRecord
-fetched_one r [] = r
-fetched_one r (m ∷ rest) = with_fetched r m rest
 
 -- the token of the message that a fetch takes
 abbrev pub token_of_fetch : Option ReceiveRecord → Option ℕ
@@ -64,13 +51,9 @@ abbrev pub unmarked_at : ℕ → Option ReceiveRecord → Option Message
 unmarked_at t None = None
 unmarked_at t (Some r) = unmarked_message (fetched_at t r.fetched)
 
-abbrev pub is_marked : Option Fetched → Bool
-is_marked None = false
-is_marked (Some f) = f.marked
-
 abbrev pub marked_at : ℕ → Option ReceiveRecord → Bool
 marked_at t None = false
-marked_at t (Some r) = is_marked (fetched_at t r.fetched)
+marked_at t (Some r) = has_mark (fetched_at t r.fetched)
 
 abbrev pub header_or_refusal : Option Message → Result Header Refusal
 header_or_refusal None = Err Refusal.NoSuchToken

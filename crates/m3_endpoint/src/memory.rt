@@ -4,7 +4,8 @@ ghost use Rattle.std.specs.Prelude.{◌≡◌, ℕ, IsTrue, true};
 ghost use Rattle.m3_base.specs.Ideal.Context.{Reaches, new_endpoint};
 ghost use Rattle.m3_base.specs.Ideal.Acceptance.{is_form};
 ghost use Rattle.m3_endpoint.specs.RecordForms.{IsMemoryForm, memory_form};
-ghost use Rattle.m3_endpoint.specs.MemoryAccess.{permits, place_or_refusal, range_refusal};
+ghost use Rattle.m3_endpoint.specs.MemoryAccess.{place_or_refusal, range_refusal};
+ghost use Rattle.m3_base.specs.Ideal.Issue.{permits};
 
 use m3_base::command::Refusal;
 use m3_base::ids::GrantId;

@@ -5,7 +5,8 @@ ghost use Rattle.m3_base.specs.Ideal.ReceiveRecord.{with_unread, without_fetched
 ghost use Rattle.m3_base.specs.Ideal.Acceptance.{is_form};
 ghost use Rattle.m3_base.specs.Ideal.Credits.{is_sent_by};
 ghost use Rattle.m3_endpoint.specs.RecordForms.{receive_form};
-ghost use Rattle.m3_endpoint.specs.ReceiveOps.{empty_record, closing_one, is_full_one, HasToken, token_of_fetch, after_fetch, unread_at, token_in, message_at, unmarked_at, marked_at, header_or_refusal, reply_header, with_reply_mark, grant_in, size_in, closing_in, next_token_in, unread_count, fetched_count, token_at, queued_in};
+ghost use Rattle.m3_endpoint.specs.ReceiveOps.{closing_one, is_full_one, HasToken, token_of_fetch, after_fetch, unread_at, token_in, message_at, unmarked_at, marked_at, header_or_refusal, reply_header, with_reply_mark, grant_in, size_in, closing_in, next_token_in, unread_count, fetched_count, token_at, queued_in};
+ghost use Rattle.m3_base.specs.Ideal.Context.{empty_record};
 
 mod readers;
 
@@ -96,19 +97,21 @@ impl ReceiveEp {
     }
 
     /// A message joins the unread ones. Err, with the message, exactly where all slots are occupied.
+    #[inline(always)]
     pub fn deposit(&mut self, message: Message) -> Result<(), Message>
         requires { IsSome self.old }
         ensures ok { OnOk result (self.new ≡ option_map (λ r. with_unread r message) self.old) }
         ensures full { IsErr result ↔ IsTrue (is_full_one self.old) }
         ensures err { IfErr result (λ back. (back ≡ message) × (self.new ≡ self.old)) }
     {
-        if self.unread.len() + self.fetched.len() >= self.slots as usize {
+        if self.is_full() {
             return Err(message);
         }
         self.unread.try_push_back(message)
     }
 
     /// Whether all slots are occupied.
+    #[inline(always)]
     pub fn is_full(&self) -> bool
         requires { IsSome self.now }
         ensures { result ≡ is_full_one self.now }
@@ -118,6 +121,7 @@ impl ReceiveEp {
 
     /// The oldest unread message is fetched, under the next token. None exactly where none is unread.
     #[tactic(auto, using(crate::proofs::TokenOrder::ordered_push))]
+    #[inline(always)]
     pub fn fetch(&mut self) -> Option<u32>
         requires { HasToken self.old }
         ensures token { result ≡ token_of_fetch self.old }
@@ -131,16 +135,16 @@ impl ReceiveEp {
             Some(message) => {
                 let token = self.next_token;
                 self.next_token += 1;
-                match self.fetched.push(FetchedMessage::new(token, message)) {
-                    Ok(()) => Some(token),
-                    Err(_) => unreachable!(),
-                }
+                self.fetched
+                    .push_reserved(FetchedMessage::new(token, message));
+                Some(token)
             }
         }
     }
 
     /// Frees the slot of the message of this token. `NoSuchToken` exactly where none of this token is fetched, or it
     /// is being replied to; nothing has changed then.
+    #[inline(always)]
     pub fn acknowledge(&mut self, token: u32) -> Result<Header, Refusal>
         ensures answer { result ≡ header_or_refusal (unmarked_at token self.old) }
         ensures freed { IsOk result → self.new ≡ option_map (λ r. without_fetched r token) self.old }

@@ -69,6 +69,7 @@ impl SendEp {
     }
 
     /// Takes a credit. False, with nothing changed, exactly where none is held.
+    #[inline(always)]
     pub fn take_credit(&mut self) -> bool
         ensures answer { IsTrue result ↔ (0 < self.old.held) }
         ensures taken { IsTrue result → self.new ≡ less_one self.old }
@@ -82,6 +83,7 @@ impl SendEp {
     }
 
     /// A credit comes back.
+    #[inline(always)]
     pub fn give_credit(&mut self)
         requires { self.old.held < self.old.limit }
         ensures { self.new ≡ one_more self.old }
@@ -113,6 +115,7 @@ impl SendEp {
     }
 
     /// The credits held.
+    #[inline(always)]
     pub fn held(&self) -> u8
         ensures held { result ≡ self.now.held }
         ensures limit { result ≤ self.now.limit }
@@ -121,6 +124,7 @@ impl SendEp {
     }
 
     /// Whether it is closing.
+    #[inline(always)]
     pub fn closing(&self) -> bool
         ensures { result ≡ self.now.closing }
     {
@@ -128,6 +132,7 @@ impl SendEp {
     }
 
     /// Its grant.
+    #[inline(always)]
     pub fn grant(&self) -> GrantId
         ensures { result ≡ self.now.grant }
     {
@@ -135,6 +140,7 @@ impl SendEp {
     }
 
     /// The activity that it sends to.
+    #[inline(always)]
     pub fn to(&self) -> ActId
         ensures { result ≡ self.now.to }
     {
@@ -142,6 +148,7 @@ impl SendEp {
     }
 
     /// The endpoint that it sends to.
+    #[inline(always)]
     pub fn to_ep(&self) -> EpId
         ensures { result ≡ self.now.to_ep }
     {
@@ -149,6 +156,7 @@ impl SendEp {
     }
 
     /// The receive grant that it sends to.
+    #[inline(always)]
     pub fn to_grant(&self) -> GrantId
         ensures { result ≡ self.now.to_grant }
     {
@@ -156,6 +164,7 @@ impl SendEp {
     }
 
     /// What its messages say of their sender.
+    #[inline(always)]
     pub fn label(&self) -> u64
         ensures { result ≡ self.now.label }
     {
@@ -163,6 +172,7 @@ impl SendEp {
     }
 
     /// The largest payload, in bytes.
+    #[inline(always)]
     pub fn size(&self) -> u16
         ensures same { result ≡ self.now.size }
         ensures range { result ≤ 512 }
@@ -171,6 +181,7 @@ impl SendEp {
     }
 
     /// How many credits it holds at most.
+    #[inline(always)]
     pub fn limit(&self) -> u8
         ensures { result ≡ self.now.limit }
     {

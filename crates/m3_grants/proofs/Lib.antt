@@ -1,4 +1,3 @@
-pub mod Refusals
 pub mod StandingChanges
 pub mod WordBits
 pub mod MarkDone

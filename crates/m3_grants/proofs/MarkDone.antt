@@ -4,32 +4,29 @@ use Rattle.std.specs.Prelude.{Option, if◌then◌else◌, ◌==◌, slice_get, 
 use Rattle.std.proofs.lemmas.List.Sums.{sum_by-set}
 use Rattle.std.proofs.lemmas.Option.{slice_get_within, get_or_from_slice_get}
 use Rattle.std.proofs.lemmas.Bool.Decides.{nat_tests}
-use Rattle.m3_base.specs.Ideal.State.{Done, Grant, grant_in, parent_of, holder, holder_ep, is_number, is_done, is_live}
-use Rattle.m3_base.specs.Ideal.GrantRules.{is_open_child, change_grant}
+use Rattle.m3_base.specs.Ideal.State.{Grant, grant_in, parent_of, holder, holder_ep, is_number, is_done, is_live}
+use Rattle.m3_base.specs.Ideal.GrantRules.{is_open_child, change_grant, to_done}
 use Rattle.m3_base.specs.declared.grants.node.Node.{Node}
 use Rattle.m3_base.specs.Setup.GrantTable.{holds_in, on_node, as_grant, grants_of, grant_of, IsTree, IsRange, Counts, with_node, under_parent, is_before, is_rightful, is_some_number}
 use Rattle.m3_grants.specs.GrantTree.{with_done, is_sent_in, is_undone_in}
-use Rattle.m3_grants.specs.NodeView.{one_less, done_node, has_child, has_child_under}
+use Rattle.m3_grants.specs.NodeView.{done_node, has_child, has_child_under, with_child_less}
 use Rattle.m3_base.proofs.GrantTableLookup.{found, get_with_node, length_with_node}
 use Rattle.m3_grants.proofs.NodeLookup.{grants_changed, is_child_in, child_counts}
 use Rattle.m3_grants.proofs.StandingChanges.{Keeps, keeps_same, rightful_kept}
 use Rattle.m3_grants.proofs.MarkCloseSent.{get_changed, counts_changed}
 use Rattle.m3_base.proofs.GrantTableGrow.{grants_under, length_under}
 
-abbrev pub to_done : Grant → Grant
-to_done x = record x { standing = Done }
-
 abbrev pub finished : List Node → ℕ → Option ℕ → List Node
-finished nodes g p = with_node (under_parent nodes p one_less) (g - 1) done_node
+finished nodes g p = with_node (under_parent nodes p with_child_less) (g - 1) done_node
 
 pub grants_done : (nodes : List Node) (g : ℕ) (p : Option ℕ) → 0 < g → grants_of (finished nodes g p) ≡ with_done (grants_of nodes) g
-grants_done nodes g p h = grants_changed (under_parent nodes p one_less) done_node to_done g h (λ x. refl) ∙ ap (λ gs. change_grant gs g to_done) (grants_under nodes p one_less (λ x. refl))
+grants_done nodes g p h = grants_changed (under_parent nodes p with_child_less) done_node to_done g h (λ x. refl) ∙ ap (λ gs. change_grant gs g to_done) (grants_under nodes p with_child_less (λ x. refl))
 
 -- each grant before and after
 pub get_done : (P : Option Grant → Option Grant → Type 0) (nodes : List Node) (g : ℕ) (p : Option ℕ) (x : Grant) → slice_get (grants_of nodes) (g - 1) ≡ Some x → ((o : Option Grant) → P o o) → P (Some x) (Some (to_done x)) → (k : ℕ) → P (slice_get (grants_of nodes) k) (slice_get (grants_of (finished nodes g p)) k)
 get_done P nodes g p x e same here k =
-    let mid = under_parent nodes p one_less in
-    let is : grants_of mid ≡ grants_of nodes = grants_under nodes p one_less (λ y. refl) in
+    let mid = under_parent nodes p with_child_less in
+    let is : grants_of mid ≡ grants_of nodes = grants_under nodes p with_child_less (λ y. refl) in
     let this : grant_of (slice_get mid (g - 1)) ≡ Some x = sym (found mid (g - 1)) ∙ (ap (λ gs. slice_get gs (g - 1)) is ∙ e) in
     subst (λ gs. P (slice_get gs k) (slice_get (grants_of (finished nodes g p)) k)) is (get_changed P mid done_node (g - 1) same (by_node (slice_get mid (g - 1)) this) k)
   where
@@ -94,19 +91,19 @@ count_done q gs g x some e undone =
     let gone : f (to_done x) ≡ 0 = grind (arith) in
     rw there (omega (arith, sums, was, gone))
 
-less_counts : (n : ℕ) (o : Option Node) → Counts n o → Counts (n - 1) (on_node one_less o)
+less_counts : (n : ℕ) (o : Option Node) → Counts n o → Counts (n - 1) (on_node with_child_less o)
 less_counts n None k = omega (arith, k)
 less_counts n (Some x) k = ap (λ m. m - 1) k
 
-counts_less : (count : ℕ → ℕ) (nodes : List Node) (p : Option ℕ) (n : ℕ) → is_before p n ≡ true → ((i : ℕ) → Counts (count i) (slice_get nodes i)) → (i : ℕ) → Counts (count i - cond (is_number (i + 1) p) 1 0) (slice_get (under_parent nodes p one_less) i)
+counts_less : (count : ℕ → ℕ) (nodes : List Node) (p : Option ℕ) (n : ℕ) → is_before p n ≡ true → ((i : ℕ) → Counts (count i) (slice_get nodes i)) → (i : ℕ) → Counts (count i - cond (is_number (i + 1) p) 1 0) (slice_get (under_parent nodes p with_child_less) i)
 counts_less count nodes None n b k i = let P : ℕ → Type 0 = λ m. Counts m (slice_get nodes i) in let e : count i ≡ count i - 0 = omega arith in subst P e (k i)
-counts_less count nodes (Some g) n b k i = subst (Counts (count i - cond (g == (i + 1)) 1 0)) (sym (get_with_node nodes one_less (g - 1) i)) (by_place (i == (g - 1)) refl)
+counts_less count nodes (Some g) n b k i = subst (Counts (count i - cond (g == (i + 1)) 1 0)) (sym (get_with_node nodes with_child_less (g - 1) i)) (by_place (i == (g - 1)) refl)
   where
-    by_place : (c : Bool) → (i == (g - 1)) ≡ c → Counts (count i - cond (g == (i + 1)) 1 0) (if c then on_node one_less (slice_get nodes (g - 1)) else slice_get nodes i)
+    by_place : (c : Bool) → (i == (g - 1)) ≡ c → Counts (count i - cond (g == (i + 1)) 1 0) (if c then on_node with_child_less (slice_get nodes (g - 1)) else slice_get nodes i)
     by_place true w =
         let same : i ≡ g - 1 = grind (arith, nat_tests, w) in
         let hit : count i - cond (g == (i + 1)) 1 0 ≡ count (g - 1) - 1 = grind (arith, nat_tests, same, b) in
-        let Q : ℕ → Type 0 = λ m. Counts m (on_node one_less (slice_get nodes (g - 1))) in
+        let Q : ℕ → Type 0 = λ m. Counts m (on_node with_child_less (slice_get nodes (g - 1))) in
         subst Q (sym hit) (less_counts (count (g - 1)) (slice_get nodes (g - 1)) (k (g - 1)))
     by_place false w =
         let missed : count i - cond (g == (i + 1)) 1 0 ≡ count i = grind (arith, nat_tests, w, b) in
@@ -146,8 +143,8 @@ keeps_done x e = (refl, (e, grind (arith, e)))
 
 done_at : (nodes : List Node) (g : ℕ) (p : Option ℕ) (x : Grant) → slice_get (grants_of nodes) (g - 1) ≡ Some x → (k : ℕ) → slice_get (grants_of (finished nodes g p)) k ≡ (if k == (g - 1) then Some (to_done x) else slice_get (grants_of nodes) k)
 done_at nodes g p x e k =
-    let mid = under_parent nodes p one_less in
-    let is : grants_of mid ≡ grants_of nodes = grants_under nodes p one_less (λ y. refl) in
+    let mid = under_parent nodes p with_child_less in
+    let is : grants_of mid ≡ grants_of nodes = grants_under nodes p with_child_less (λ y. refl) in
     let this : grant_of (slice_get mid (g - 1)) ≡ Some x = sym (found mid (g - 1)) ∙ (ap (λ gs. slice_get gs (g - 1)) is ∙ e) in
     let other : grant_of (slice_get mid k) ≡ slice_get (grants_of nodes) k = sym (found mid k) ∙ ap (λ gs. slice_get gs k) is in
     found (finished nodes g p) k ∙ (ap grant_of (get_with_node mid done_node (g - 1) k) ∙ by_place this other (k == (g - 1)))
@@ -156,8 +153,8 @@ done_at nodes g p x e k =
     by_node None v = absurd (cc)
     by_node (Some y) v = let s : as_grant y ≡ x = grind (arith, v) in ap (λ z. Some (to_done z)) s
 
-    by_place : grant_of (slice_get (under_parent nodes p one_less) (g - 1)) ≡ Some x → grant_of (slice_get (under_parent nodes p one_less) k) ≡ slice_get (grants_of nodes) k → (b : Bool) → grant_of (if b then on_node done_node (slice_get (under_parent nodes p one_less) (g - 1)) else slice_get (under_parent nodes p one_less) k) ≡ (if b then Some (to_done x) else slice_get (grants_of nodes) k)
-    by_place this other true = by_node (slice_get (under_parent nodes p one_less) (g - 1)) this
+    by_place : grant_of (slice_get (under_parent nodes p with_child_less) (g - 1)) ≡ Some x → grant_of (slice_get (under_parent nodes p with_child_less) k) ≡ slice_get (grants_of nodes) k → (b : Bool) → grant_of (if b then on_node done_node (slice_get (under_parent nodes p with_child_less) (g - 1)) else slice_get (under_parent nodes p with_child_less) k) ≡ (if b then Some (to_done x) else slice_get (grants_of nodes) k)
+    by_place this other true = by_node (slice_get (under_parent nodes p with_child_less) (g - 1)) this
     by_place this other false = other
 
 pub tree_done : (nodes : List Node) (table : List (Option ℕ)) (g : ℕ) (x : Grant) → IsTree nodes table → 0 < g → slice_get (grants_of nodes) (g - 1) ≡ Some x → is_done x.standing ≡ false → x.close_sent ≡ true → holder x.line < 64 → holder_ep x.line < 16 → IsTree (finished nodes g (parent_of x.line)) (set table (16 * holder x.line + holder_ep x.line) None)
@@ -170,12 +167,12 @@ tree_done nodes table g x t some e undone sent ha he =
     let keeps : (i : ℕ) → Keeps (slice_get gs i) (slice_get (grants_of news) i) = get_done Keeps nodes g p x e keeps_same (keeps_done x (not_live gs (g - 1) x right sent)) in
     let counts : (i : ℕ) → count_by (is_open_child (i + 1)) (grants_of news) ≡ count_by (is_open_child (i + 1)) gs - cond (is_number (i + 1) p) 1 0 = λ i. ap (λ hs. count_by (is_open_child (i + 1)) hs) (grants_done nodes g p some) ∙ count_done (i + 1) gs g x some e undone in
     record {
-      few = rw (length_with_node (under_parent nodes p one_less) done_node (g - 1), length_under nodes p one_less) t.few;
+      few = rw (length_with_node (under_parent nodes p with_child_less) done_node (g - 1), length_under nodes p with_child_less) t.few;
       room = length-set table (16 * holder x.line + holder_ep x.line) None ∙ t.room;
       numbers = numbers_done table (16 * holder x.line + holder_ep x.line) (omega (arith, ha, he, t.room)) t.numbers;
       held = held_done table gs (grants_of news) g x t.room ha he some e undone (done_at nodes g p x e) t.held;
       ranges = λ i. get_done (λ o q. IsRange o → IsRange q) nodes g p x e (λ o r. r) (λ r. r) i (t.ranges i);
-      children = λ i. subst (λ n. Counts n (slice_get news i)) (sym (counts i)) (counts_changed (under_parent nodes p one_less) done_node (g - 1) counts_kept i (count_by (is_open_child (i + 1)) gs - cond (is_number (i + 1) p) 1 0) (counts_less (λ j. count_by (is_open_child (j + 1)) gs) nodes p (g - 1) before t.children i));
+      children = λ i. subst (λ n. Counts n (slice_get news i)) (sym (counts i)) (counts_changed (under_parent nodes p with_child_less) done_node (g - 1) counts_kept i (count_by (is_open_child (i + 1)) gs - cond (is_number (i + 1) p) 1 0) (counts_less (λ j. count_by (is_open_child (j + 1)) gs) nodes p (g - 1) before t.children i));
       rightful = rightful_kept gs (grants_of news) keeps t.rightful;
     }
 

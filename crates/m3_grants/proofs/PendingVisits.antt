@@ -7,7 +7,7 @@ use Rattle.std.proofs.lemmas.List.Sums.{sum_by-set, count_by-le-length}
 use Rattle.std.proofs.lemmas.List.Folds.{list_any-append}
 use Rattle.std.proofs.lemmas.List.Elements.{All-nil, All-push}
 use Rattle.std.proofs.lemmas.Bool.Decides.{nat_tests}
-use Rattle.m3_base.specs.Ideal.State.{parent_of, grant_in, is_number, is_live}
+use Rattle.m3_base.specs.Ideal.State.{parent_of, grant_in, is_live}
 use Rattle.m3_base.specs.Ideal.GrantRules.{is_marked, or_false}
 use Rattle.m3_base.specs.declared.grants.node.Node.{Node}
 use Rattle.m3_base.specs.Setup.GrantTable.{is_live_in, as_grant, grants_of, grant_of, with_node, is_before, is_rightful, is_live_above}
@@ -19,6 +19,7 @@ use Rattle.m3_base.proofs.GrantTableLookup.{found}
 use Rattle.m3_grants.proofs.NodeLookup.{read, mapped_at, mapped_same}
 use Rattle.m3_grants.proofs.SubtreeMarks.{mark_is}
 use Rattle.m3_grants.proofs.RevokeSubtree.{live_stage}
+use Rattle.m3_base.proofs.Options.{some_if_number}
 
 -- ---- parents
 
@@ -32,10 +33,6 @@ parents_closed nodes i = by_node (slice_get nodes i) refl
     by_node None e = rw e refl
     by_node (Some x) e = rw e (mapped_same (λ y. parent_of y.line) nodes i x (closing_node x) e refl)
 
-pub number_is : (p : ℕ) (o : Option ℕ) → is_number p o ≡ true → o ≡ Some p
-number_is p None e = absurd (cc)
-number_is p (Some q) e = let s : q ≡ p = grind (arith, nat_tests, e) in ap Some s
-
 -- a parent stands before
 pub before_at : (nodes : List Node) → AllRightful (grants_of nodes) → (i : ℕ) → is_before (get_or (parents_of nodes) i None) i ≡ true
 before_at nodes r i = rw (mapped_at (λ x. parent_of x.line) nodes i) (by_node (slice_get nodes i) (subst (λ o. is_rightful (grants_of nodes) i o ≡ true) (found nodes i) (r i)))
@@ -46,7 +43,7 @@ before_at nodes r i = rw (mapped_at (λ x. parent_of x.line) nodes i) (by_node (
 
 pub under_some : (nodes : List Node) → AllRightful (grants_of nodes) → (p i : ℕ) → is_under (parents_of nodes) p i ≡ true → (0 < p) × (p ≤ i)
 under_some nodes r p i u =
-    let b : is_before (Some p) i ≡ true = subst (λ o. is_before o i ≡ true) (number_is p (get_or (parents_of nodes) i None) u) (before_at nodes r i) in
+    let b : is_before (Some p) i ≡ true = subst (λ o. is_before o i ≡ true) (some_if_number p (get_or (parents_of nodes) i None) u) (before_at nodes r i) in
     grind (arith, nat_tests, b)
 
 -- a parent of one that is live is live
@@ -68,7 +65,7 @@ above_live nodes r p i l u = by_node (slice_get nodes i) refl
     by_node (Some x) e =
         let this : is_rightful (grants_of nodes) i (Some (as_grant x)) ≡ true = subst (λ o. is_rightful (grants_of nodes) i o ≡ true) (found nodes i ∙ ap grant_of e) (r i) in
         let live : is_live_stage x.stage ≡ true = subst (λ o. is_live_node o ≡ true) e l in
-        let parent : parent_of x.line ≡ Some p = sym (ap parent_in e) ∙ (sym (mapped_at (λ x. parent_of x.line) nodes i) ∙ number_is p (get_or (parents_of nodes) i None) u) in
+        let parent : parent_of x.line ≡ Some p = sym (ap parent_in e) ∙ (sym (mapped_at (λ x. parent_of x.line) nodes i) ∙ some_if_number p (get_or (parents_of nodes) i None) u) in
         let standing : is_live (as_grant x).standing ≡ true = live_stage x ∙ live in
         let above : is_live_above (grants_of nodes) (parent_of x.line) ≡ true = grind (arith, this, standing) in
         up (subst (λ q. is_live_above (grants_of nodes) q ≡ true) parent above)
@@ -160,11 +157,11 @@ pending_next root before g (Some m) w v = by_parent (get_or (parents_of before) 
         let same : (p == p) ≡ true = grind (arith, nat_tests) in
         let under : is_under (parents_of before) p (g - 1) ≡ true = rw e same in
         let last : IsLast (parents_of before) p (g - 1) (Some m) = v p under in
-        let parent : get_or (parents_of before) (m - 1) None ≡ get_or (parents_of before) (g - 1) None = number_is p (get_or (parents_of before) (m - 1) None) last.1.0 ∙ sym e in
+        let parent : get_or (parents_of before) (m - 1) None ≡ get_or (parents_of before) (g - 1) None = some_if_number p (get_or (parents_of before) (m - 1) None) last.1.0 ∙ sym e in
         All-push (IsPending root before) [] m (All-nil (IsPending root before)) (last.0.0, rw parent w.1)
 
 pub pending_child : (root : ℕ) (before : List Node) (g n : ℕ) (found : Option ℕ) → or_false (slice_get (marks root before) (g - 1)) ≡ true → IsLast (parents_of before) g n found → All (IsPending root before) (option_to_list found)
 pending_child root before g n None w l = All-nil (IsPending root before)
 pending_child root before g n (Some m) w l =
-    let parent : get_or (parents_of before) (m - 1) None ≡ Some g = number_is g (get_or (parents_of before) (m - 1) None) l.1.0 in
+    let parent : get_or (parents_of before) (m - 1) None ≡ Some g = some_if_number g (get_or (parents_of before) (m - 1) None) l.1.0 in
     All-push (IsPending root before) [] m (All-nil (IsPending root before)) (l.0.0, rw parent w)

@@ -7,11 +7,12 @@ use Rattle.m3_base.specs.declared.grants.node.Node.{Node}
 use Rattle.m3_base.specs.declared.grants.node.Stage.{Stage}
 use Rattle.m3_base.specs.Setup.GrantTable.{is_live_in, on_node, as_grant, grants_of, grant_of, standing_of, IsTree, Counts, with_node, is_before, is_live_above, is_rightful}
 use Rattle.m3_grants.specs.NodeView.{root_node, is_live_stage, close_if, close_where}
-use Rattle.m3_base.proofs.GrantTableLookup.{found, length_with_node, grant_in-suc}
+use Rattle.m3_base.proofs.GrantTableLookup.{found, length_with_node}
 use Rattle.m3_grants.proofs.NodeLookup.{grants_changed}
 use Rattle.m3_grants.proofs.StandingChanges.{Alike, alike_same, Keeps, keeps_same, rightful_kept, tree_alike}
 use Rattle.m3_grants.proofs.MarkCloseSent.{get_changed, counts_changed}
 use Rattle.m3_grants.proofs.SubtreeMarks.{marks_of, mark, mark_is}
+use Rattle.m3_base.proofs.GrantsByNumber.{grant_in-suc}
 
 -- ---- place by place
 

@@ -5,8 +5,8 @@ use Rattle.m3_base.specs.Ideal.State.{Grant, grant_in, is_done, is_live, parent_
 use Rattle.m3_base.specs.Ideal.GrantRules.{is_open_child}
 use Rattle.m3_base.specs.declared.grants.node.Node.{Node}
 use Rattle.m3_base.specs.Setup.GrantTable.{holds_in, is_live_in, grants_of, IsTree, IsRange, Counts, is_rightful, is_live_above}
-use Rattle.m3_base.proofs.GrantTableLookup.{grant_in-suc}
 use Rattle.m3_grants.proofs.NodeLookup.{count_cons}
+use Rattle.m3_base.proofs.GrantsByNumber.{grant_in-suc}
 
 -- the same line and record, and neither or both are done
 abbrev pub Alike : Option Grant → Option Grant → Type 0

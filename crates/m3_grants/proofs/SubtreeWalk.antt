@@ -13,9 +13,10 @@ use Rattle.m3_grants.specs.NodeView.{closing_node, is_live_stage, is_live_node, 
 use Rattle.m3_grants.specs.DueIndexView.{parents_of}
 use Rattle.m3_grants.specs.Siblings.{is_under, IsLast, IsPrevious}
 use Rattle.m3_grants.specs.SubtreeWalk.{live_count, left, marks, IsPending, is_later, Walks}
-use Rattle.m3_base.proofs.GrantTableLookup.{found, get_with_node, grant_in-suc}
+use Rattle.m3_base.proofs.GrantTableLookup.{found, get_with_node}
 use Rattle.m3_grants.proofs.RevokeSubtree.{same_places, get_close, live_stage}
 use Rattle.m3_grants.proofs.PendingVisits.{parents_closed, under_some, above_live, mark_at, live_closed, live_most, later_more, later_last, later_found, later_next, under_within, pending_next, pending_child}
+use Rattle.m3_base.proofs.GrantsByNumber.{grant_in-suc}
 
 -- ---- one is closed
 

@@ -27,8 +27,8 @@ pub record IsWhole (nodes : List Node) (table : List (Option ℕ)) (memory : ℕ
 
 -- ---- one grant more, or changed
 
-abbrev pub one_less : Node → Node
-one_less x = record x { children = x.children - 1 }
+abbrev pub with_child_less : Node → Node
+with_child_less x = record x { children = x.children - 1 }
 
 abbrev pub sent_node : Node → Node
 sent_node x = record x { close_sent = true }

@@ -1,8 +1,8 @@
 //! Changes of single grants.
 
 ghost use Rattle.std.specs.Prelude.{◌≡◌, true, ◌-◌};
-ghost use Rattle.m3_base.specs.Setup.GrantTable.{under_parent, has_room_under, one_more, with_node};
-ghost use Rattle.m3_grants.specs.NodeView.{has_child_under, one_less, sent_node, done_node, root_node, closing_node};
+ghost use Rattle.m3_base.specs.Setup.GrantTable.{under_parent, has_room_under, with_node, with_child_more};
+ghost use Rattle.m3_grants.specs.NodeView.{has_child_under, sent_node, done_node, root_node, closing_node, with_child_less};
 
 use crate::nodes::Nodes;
 use m3_base::grants::node::Stage;
@@ -11,7 +11,7 @@ use m3_base::ids::GrantId;
 /// The parent has one more child.
 pub fn add_child(nodes: &mut Nodes, parent: Option<GrantId>)
     requires { has_room_under nodes.old parent ≡ true }
-    ensures { nodes.new ≡ under_parent nodes.old parent one_more }
+    ensures { nodes.new ≡ under_parent nodes.old parent with_child_more }
 {
     if let Some(g) = parent {
         if let Some(mut node) = nodes.get(g) {
@@ -24,7 +24,7 @@ pub fn add_child(nodes: &mut Nodes, parent: Option<GrantId>)
 /// The parent has one child less.
 pub fn remove_child(nodes: &mut Nodes, parent: Option<GrantId>)
     requires { has_child_under nodes.old parent ≡ true }
-    ensures { nodes.new ≡ under_parent nodes.old parent one_less }
+    ensures { nodes.new ≡ under_parent nodes.old parent with_child_less }
 {
     if let Some(g) = parent {
         if let Some(mut node) = nodes.get(g) {

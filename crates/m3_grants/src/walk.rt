@@ -49,8 +49,12 @@ fn close(nodes: &mut Nodes, g: GrantId) -> Option<GrantId>
 // The grant is closing where it was live, and those that were made before it under the same are visited later.
 fn visit(nodes: &mut Nodes, pending: &mut Vec<GrantId>, g: GrantId)
     requires { vec_len pending.old + 1 + live_count nodes.old ≤ vec_capacity pending.old }
-    ensures walks { (root : ℕ) (before : List ANode) → Walks root before nodes.old (pending.old.items ++ g ∷ []) → Walks root before nodes.new pending.new.items }
-    ensures nearer { (root : ℕ) (before : List ANode) → Walks root before nodes.old (pending.old.items ++ g ∷ []) → left nodes.new pending.new.items < left nodes.old (pending.old.items ++ g ∷ []) }
+    ensures walks { (root : ℕ) (before : List ANode) →
+        Walks root before nodes.old (pending.old.items ++ g ∷ []) →
+        Walks root before nodes.new pending.new.items }
+    ensures nearer { (root : ℕ) (before : List ANode) →
+        Walks root before nodes.old (pending.old.items ++ g ∷ []) →
+        left nodes.new pending.new.items < left nodes.old (pending.old.items ++ g ∷ []) }
     ensures capacity { vec_capacity pending.new ≡ vec_capacity pending.old }
 {
     let previous = nodes.previous(g);

@@ -7,16 +7,13 @@ use Rattle.m3_base.specs.Ideal.State.{Standing, Closed, Done, Grant, grant_in, i
 use Rattle.m3_base.specs.Ideal.GrantRules.{change_grant, set_some}
 use Rattle.m3_ideal.specs.Tally.{IsTallied, IsParent, held_raised, held_lowered, under_raised, under_lowered}
 use Rattle.m3_ideal.proofs.Tally.{tallied_undone, tallied_done, tallied_alike, alike_set}
+use Rattle.std.proofs.lemmas.Option.{slice_get_past}
+use Rattle.std.proofs.lemmas.List.{length-replicate}
 
 pub get_of : {X : Type 0} (xs : List X) (i : ℕ) (x : X) → i < length xs → x ≡ slice_index_or xs i x → slice_get xs i ≡ Some x
 get_of [] i x h e = absurd (omega arith)
 get_of (y ∷ xs) zero x h e = ap Some (sym e)
 get_of (y ∷ xs) (suc i) x h e = get_of xs i x (omega arith) e
-
-past_get : {X : Type 0} (xs : List X) (i : ℕ) → length xs ≤ i → slice_get xs i ≡ None
-past_get [] i h = refl
-past_get (y ∷ xs) zero h = absurd (omega arith)
-past_get (y ∷ xs) (suc i) h = past_get xs i (omega arith)
 
 pub found_in : (gs : List Grant) (g : ℕ) → 0 < g → grant_in gs g ≡ slice_get gs (g - 1)
 found_in gs g h = by_test (g == 0) (grind (arith, nat_tests))
@@ -29,7 +26,7 @@ pub changed_at : (gs : List Grant) (g : ℕ) (f : Grant → Grant) (x : Grant) �
 changed_at gs g f x h e = ap (set_some gs g f) (sym (found_in gs g h ∙ e))
 
 pub changed_past : (gs : List Grant) (g : ℕ) (f : Grant → Grant) → 0 < g → length gs ≤ g - 1 → gs ≡ change_grant gs g f
-changed_past gs g f h e = ap (set_some gs g f) (sym (found_in gs g h ∙ past_get gs (g - 1) e))
+changed_past gs g f h e = ap (set_some gs g f) (sym (found_in gs g h ∙ slice_get_past gs (g - 1) e))
 
 -- ---- none
 
@@ -41,15 +38,11 @@ zero_at zero i = refl
 zero_at (suc n) zero = refl
 zero_at (suc n) (suc i) = zero_at n i
 
-zero_length : (n : ℕ) → length (zeros n) ≡ n
-zero_length zero = refl
-zero_length (suc n) = ap suc (zero_length n)
-
 pub tallied_empty : (held children : List ℕ) → held ≡ zeros 1024 → children ≡ zeros 4097 → IsTallied [] held children
 tallied_empty held children e f =
     record {
       few = omega arith;
-      size = record { places = ap length e ∙ zero_length 1024; numbers = ap length f ∙ zero_length 4097 };
+      size = record { places = ap length e ∙ length-replicate {A = ℕ} 1024 0; numbers = ap length f ∙ length-replicate {A = ℕ} 4097 0 };
       holds = λ a ep x y. ap (λ t. slice_index_or t (16 * a + ep) 0) e ∙ zero_at 1024 (16 * a + ep);
       under = λ g x. ap (λ t. slice_index_or t g 0) f ∙ zero_at 4097 g;
     }

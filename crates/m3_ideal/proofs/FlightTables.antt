@@ -3,11 +3,13 @@ use Rattle.std.proofs.Common.{◌≡◌, ℕ, zero, suc, ◌+◌, ◌<◌, ◌�
 use Rattle.std.specs.Prelude.{slice_set, slice_index_or, replicate, Option, Result, OnOk, vec_len, vec_capacity, if◌then◌else◌}
 use Rattle.m3_base.specs.declared.ids.FlightId.{FlightId}
 use Rattle.m3_base.specs.declared.packet.Packet.{Packet}
-use Rattle.m3_base.specs.Ideal.Flights.{name_of, same_name, name_before, flight, new_flight, change_flight, end_flight}
+use Rattle.m3_base.specs.Ideal.Flights.{name_of, same_name, name_before, flight, new_flight, change_flight, end_flight, flight_name}
 use Rattle.m3_ideal.specs.declared.lane.Lane.{Lane}
-use Rattle.m3_ideal.specs.Lanes.{FlightTable, flights_in, AreLanes, HasLanes, lane_of, lanes_of, room_in, table_of, name_at, swapped}
+use Rattle.m3_ideal.specs.Lanes.{FlightTable, flights_in, AreLanes, HasLanes, lane_of, lanes_of, room_in, table_of, swapped}
 use Rattle.m3_ideal.proofs.Tables.{keyed_set, keyed_none, keyed_push}
 use Rattle.m3_ideal.proofs.Lanes.{same_in, before_in, IsLane, flight_in, changed_in, ended_in, new_in, lane_in, lanes_set}
+use Rattle.m3_base.proofs.ListLookups.{length_pushed}
+use Rattle.std.proofs.lemmas.List.{length-replicate, length-map}
 
 -- ---- lists
 
@@ -34,18 +36,10 @@ set_length [] i y = refl
 set_length (x ∷ xs) zero y = refl
 set_length (x ∷ xs) (suc i) y = ap suc (set_length xs i y)
 
-map_length : {X Y : Type 0} (f : X → Y) (xs : List X) → length (map f xs) ≡ length xs
-map_length f [] = refl
-map_length f (x ∷ xs) = ap suc (map_length f xs)
-
 set_same : {X : Type 0} (xs : List X) (i : ℕ) (d x : X) → slice_index_or xs i d ≡ x → slice_set xs i x ≡ xs
 set_same [] i d x h = refl
 set_same (y ∷ xs) zero d x h = ap (λ z. z ∷ xs) (sym h)
 set_same (y ∷ xs) (suc i) d x h = ap (λ z. y ∷ z) (set_same xs i d x h)
-
-push_length : {X : Type 0} (xs : List X) (y : X) → length (xs ++ y ∷ []) ≡ length xs + 1
-push_length [] y = refl
-push_length (x ∷ xs) y = grind (arith, push_length xs y)
 
 -- ---- what isn't there
 
@@ -125,14 +119,14 @@ ended_list ls v i x y id r e k =
 
 pub ended_lanes : (ls : List Lane) (v : FlightTable) (i : ℕ) (x y : Lane) (id : FlightId) → ReadsLane ls v i x → i ≡ id.issuer → lane_of y ≡ slice_set (lane_of x) id.number None → HasLanes (slice_set ls i y)
 ended_lanes ls v i x y id r e k =
-    has_lanes ls v i x y r (subst (IsLane i) (sym k) (keyed_none name_of same_name name_before (name_at i) (same_in i) (before_in i) 0 id.number (lane_of x) (is_lane ls v i x r)))
+    has_lanes ls v i x y r (subst (IsLane i) (sym k) (keyed_none name_of same_name name_before (flight_name i) (same_in i) (before_in i) 0 id.number (lane_of x) (is_lane ls v i x r)))
 
 nexts_same : (ls : List Lane) (v : FlightTable) (i : ℕ) (x y : Lane) → ReadsLane ls v i x → length (lane_of y) ≡ length (lane_of x) → (table_of (slice_set ls i y)).nexts ≡ v.nexts
 nexts_same ls v i x y r k =
     ap (map length) (map_set lane_of ls i y)
     ∙ map_set length (lanes_of ls) i (lane_of y)
     ∙ ap (slice_set (map length (lanes_of ls)) i) k
-    ∙ set_same (map length (lanes_of ls)) i 0 (length (lane_of x)) (length_at (lanes_of ls) i (lane_of x) (lane_at ls v i x r) (omega (arith, r.range, map_length lane_of ls)))
+    ∙ set_same (map length (lanes_of ls)) i 0 (length (lane_of x)) (length_at (lanes_of ls) i (lane_of x) (lane_at ls v i x r) (omega (arith, r.range, length-map ls lane_of)))
     ∙ ap (λ t. t.nexts) r.value
   where
     length_at : (ms : List (List (Option Packet))) (j : ℕ) (l : List (Option Packet)) → slice_index_or ms j [] ≡ l → j < length ms → slice_index_or (map length ms) j 0 ≡ length l
@@ -172,7 +166,7 @@ swapped_list ls v i x y p o r e h k =
 swapped_keyed : (i : ℕ) (l : List (Option Packet)) (p : Packet) (o : Option Packet) → IsLane i l → i ≡ (name_of p).issuer → IsLane i (swapped o (name_of p).number p l)
 swapped_keyed i l p None s e = s
 swapped_keyed i l p (Some q) s e =
-    keyed_set name_of same_name name_before (name_at i) (same_in i) (before_in i) 0 (name_of p).number p l s (ap (λ z. name_at z (name_of p).number) (sym e) ∙ ap (name_at i) (omega arith))
+    keyed_set name_of same_name name_before (flight_name i) (same_in i) (before_in i) 0 (name_of p).number p l s (ap (λ z. flight_name z (name_of p).number) (sym e) ∙ ap (flight_name i) (omega arith))
 
 pub swapped_lanes : (ls : List Lane) (v : FlightTable) (i : ℕ) (x y : Lane) (p : Packet) (o : Option Packet) → ReadsLane ls v i x → i ≡ (name_of p).issuer → lane_of y ≡ swapped o (name_of p).number p (lane_of x) → HasLanes (slice_set ls i y)
 swapped_lanes ls v i x y p o r e k = has_lanes ls v i x y r (subst (IsLane i) (sym k) (swapped_keyed i (lane_of x) p o (is_lane ls v i x r) e))
@@ -202,7 +196,7 @@ set_get (x ∷ xs) zero v h = refl
 set_get (x ∷ xs) (suc i) v h = set_get xs i v (omega arith)
 
 pub room_at : (ls : List Lane) (v : FlightTable) (i : ℕ) (x y : Lane) → ReadsLane ls v i x → slice_index_or (table_of (slice_set ls i y)).rooms i 0 ≡ room_in y
-room_at ls v i x y r = ap (λ z. slice_index_or z i 0) (map_set room_in ls i y) ∙ set_get (map room_in ls) i (room_in y) (omega (arith, r.range, map_length room_in ls))
+room_at ls v i x y r = ap (λ z. slice_index_or z i 0) (map_set room_in ls i y) ∙ set_get (map room_in ls) i (room_in y) (omega (arith, r.range, length-map ls room_in))
 
 pub roomy_if : {T E : Type 0} (ls : List Lane) (v : FlightTable) (i : ℕ) (x y : Lane) (n : ℕ) (o : Result T E) → ReadsLane ls v i x → i ≡ n → OnOk o (vec_len y.flights < vec_capacity y.flights)
     → OnOk o (0 < slice_index_or (table_of (slice_set ls i y)).rooms n 0)
@@ -228,21 +222,21 @@ pub pushed_list : (ls : List Lane) (v : FlightTable) (i : ℕ) (x y : Lane) (p :
 pushed_list ls v i x y p r e n k =
     let l = lane_at ls v i x r in
     ap flights_in (map_set lane_of ls i y ∙ ap (λ z. lanes_with ls i z) (k ∙ ap (λ z. z ++ Some p ∷ []) (sym l)))
-    ∙ sym (new_in 0 i p (lanes_of ls) r.sound.lanes (omega (arith, r.range, map_length lane_of ls)) (omega arith) (n ∙ next_of ls v i x r ∙ ap length (sym l)))
+    ∙ sym (new_in 0 i p (lanes_of ls) r.sound.lanes (omega (arith, r.range, length-map ls lane_of)) (omega arith) (n ∙ next_of ls v i x r ∙ ap length (sym l)))
     ∙ ap (λ t. new_flight p t.list) r.value
 
 pub pushed_lanes : (ls : List Lane) (v : FlightTable) (i : ℕ) (x y : Lane) (p : Packet) → ReadsLane ls v i x → i ≡ (name_of p).issuer → (name_of p).number ≡ slice_index_or v.nexts i 0 → lane_of y ≡ lane_of x ++ Some p ∷ []
     → HasLanes (slice_set ls i y)
 pushed_lanes ls v i x y p r e n k =
-    let name : name_of p ≡ name_at i (0 + length (lane_of x)) = ap (λ z. name_at z (name_of p).number) (sym e) ∙ ap (name_at i) (n ∙ next_of ls v i x r ∙ omega arith) in
-    has_lanes ls v i x y r (subst (IsLane i) (sym k) (keyed_push name_of same_name name_before (name_at i) (same_in i) (before_in i) 0 p (lane_of x) (is_lane ls v i x r) name))
+    let name : name_of p ≡ flight_name i (0 + length (lane_of x)) = ap (λ z. flight_name z (name_of p).number) (sym e) ∙ ap (flight_name i) (n ∙ next_of ls v i x r ∙ omega arith) in
+    has_lanes ls v i x y r (subst (IsLane i) (sym k) (keyed_push name_of same_name name_before (flight_name i) (same_in i) (before_in i) 0 p (lane_of x) (is_lane ls v i x r) name))
 
 pub pushed_nexts : (ls : List Lane) (v : FlightTable) (i : ℕ) (x y : Lane) (p : Packet) → ReadsLane ls v i x → (name_of p).number ≡ slice_index_or v.nexts i 0 → lane_of y ≡ lane_of x ++ Some p ∷ []
     → (table_of (slice_set ls i y)).nexts ≡ slice_set v.nexts i ((name_of p).number + 1)
 pushed_nexts ls v i x y p r n k =
     ap (map length) (map_set lane_of ls i y)
     ∙ map_set length (lanes_of ls) i (lane_of y)
-    ∙ ap (λ z. slice_set (map length (lanes_of ls)) i z) (ap length k ∙ push_length (lane_of x) (Some p) ∙ ap (λ z. z + 1) (sym (next_of ls v i x r) ∙ sym n))
+    ∙ ap (λ z. slice_set (map length (lanes_of ls)) i z) (ap length k ∙ length_pushed (lane_of x) (Some p) ∙ ap (λ z. z + 1) (sym (next_of ls v i x r) ∙ sym n))
     ∙ ap (λ t. slice_set t.nexts i ((name_of p).number + 1)) r.value
 
 -- ---- none
@@ -251,14 +245,10 @@ empty_lanes : (a n : ℕ) → AreLanes a (replicate n (None ∷ []))
 empty_lanes a zero = tt
 empty_lanes a (suc n) = (tt, empty_lanes (a + 1) n)
 
-empty_size : {X : Type 0} (n : ℕ) (x : X) → length (replicate n x) ≡ n
-empty_size zero x = refl
-empty_size (suc n) x = ap suc (empty_size n x)
-
 pub new_lanes : (ls : List Lane) → lanes_of ls ≡ replicate 65 (None ∷ []) → HasLanes ls
 new_lanes ls e =
     record {
-      size = sym (map_length lane_of ls) ∙ ap length e ∙ empty_size {X = List (Option Packet)} 65 (None ∷ []);
+      size = sym (length-map ls lane_of) ∙ ap length e ∙ length-replicate {A = List (Option Packet)} 65 (None ∷ []);
       lanes = subst (AreLanes 0) (sym e) (empty_lanes 0 65);
     }
 

@@ -6,8 +6,8 @@ use Rattle.m3_base.specs.declared.message.Message.{Message}
 use Rattle.m3_base.specs.declared.command.Refusal.{Refusal}
 use Rattle.m3_base.specs.Ideal.Context.{Context, Endpoint, Free, Sends, Receives, Reaches, endpoint, with_endpoint}
 use Rattle.m3_base.specs.Ideal.Landing.{land_refusal, with_message, endpoints_with_credit, one_more, with_credit, after_message}
-use Rattle.m3_ideal.specs.Slots.{joined_if}
 use Rattle.m3_ideal.specs.Landing.{credited_by, Lands}
+use Rattle.m3_base.specs.Ideal.EndpointStep.{joined_if}
 
 refusal_in : (h g : ℕ) (m : Message) (es : List Endpoint) (i : ℕ) → land_refusal h m (slice_index_or (endpoints_with_credit g es) i Free) ≡ land_refusal h m (slice_index_or es i Free)
 refusal_in h g m [] i = refl

@@ -7,3 +7,4 @@ mod FlightTables
 mod Tally
 mod Marking
 mod Changes
+mod Numbers

@@ -5,6 +5,7 @@ use Rattle.m3_base.specs.Ideal.State.{Grant, Standing, Live, Closing, Closed, Do
 use Rattle.m3_base.specs.Ideal.GrantRules.{marks_under, is_marked, closing_where, to_closing}
 use Rattle.m3_base.specs.Ideal.State.{parent_of}
 use Rattle.m3_ideal.proofs.Tally.{AreAlike, IsAlike}
+use Rattle.std.proofs.lemmas.Bool.{and_parts}
 
 -- one mark more
 pub marks_step : (g n i : ℕ) (marks : List Bool) (x : Grant) (gs : List Grant) → slice_get gs i ≡ Some x
@@ -60,16 +61,7 @@ closing_all (b ∷ bs) [] (suc i) h = refl
 closing_all (b ∷ bs) (y ∷ gs) zero h = absurd (omega arith)
 closing_all (b ∷ bs) (y ∷ gs) (suc i) h = ap (λ z. to_closing b y ∷ z) (closing_all bs gs i (omega arith))
 
-pub closing_length : (bs : List Bool) (gs : List Grant) → length (closing_where bs gs) ≡ length gs
-closing_length [] gs = refl
-closing_length (b ∷ bs) [] = refl
-closing_length (b ∷ bs) (x ∷ gs) = ap suc (closing_length bs gs)
-
 -- ---- the tables don't see it
-
-last : (p q : Bool) → (p && q) ≡ true → q ≡ true
-last true q u = u
-last false q u = absurd cc
 
 not_done : (s : Standing) → is_live s ≡ true → false ≡ is_done s
 not_done Live u = refl
@@ -82,7 +74,7 @@ alike_closing b x = by_test (b && is_live x.standing) refl
   where
     by_test : (c : Bool) → (b && is_live x.standing) ≡ c → IsAlike x (if c then record x { standing = Closing } else x)
     by_test false e = record { line = refl; done = refl }
-    by_test true e = record { line = refl; done = not_done x.standing (last b (is_live x.standing) e) }
+    by_test true e = record { line = refl; done = not_done x.standing (and_parts b (is_live x.standing) e).1 }
 
 pub alike_where : (bs : List Bool) (gs : List Grant) → AreAlike gs (closing_where bs gs)
 alike_where [] [] = tt

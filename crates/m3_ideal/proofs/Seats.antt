@@ -108,3 +108,12 @@ empty_length (suc k) = ap suc (empty_length k)
 
 pub seated_empty : (ts : List (Option Context)) → ts ≡ replicate 64 None → IsSeated ts
 seated_empty ts e = subst IsSeated (sym e) (record { size = empty_length 64; acts = empty_keys 0 64 })
+
+-- ---- a look-up by number
+
+some_there : (o : Option Context) (c : Context) → o ≡ Some c → IsSome o
+some_there None c e = absurd cc
+some_there (Some d) c e = refl
+
+pub declared_at : (ts : List (Option Context)) (v : List Context) (n : ℕ) (c : Context) → IsSeated ts → present ts ≡ v → slice_index_or ts n None ≡ Some c → (c.act ≡ n) × IsSome (context_of n v)
+declared_at ts v n c s e h = (act_in n c ts s h, some_there (context_of n v) c (ap (context_of n) (sym e) ∙ context_at n ts s ∙ h))

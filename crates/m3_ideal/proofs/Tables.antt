@@ -1,13 +1,20 @@
 -- What a table says of the list of its elements.
 use Rattle.std.proofs.Common.{◌≡◌, ℕ, zero, suc, ◌+◌, ◌<◌, Bool, true, false, List, [], ◌∷◌, ◌++◌, length, Some, None, refl, sym, ap, ◌∙◌, arith}
-use Rattle.std.specs.Prelude.{◌==◌, nat_lt, slice_set, slice_index_or, Option, if◌then◌else◌}
+use Rattle.std.specs.Prelude.{◌==◌, nat_lt, slice_set, slice_index_or, Option}
 use Rattle.std.proofs.lemmas.Bool.Decides.{nat_tests}
 use Rattle.m3_base.specs.Lists.Keyed as keyed
 use Rattle.m3_ideal.specs.Tables.{present_on, AreKeyed}
+use Rattle.std.proofs.lemmas.Bool.{cond-false, cond-true}
 
 abbrev pub or_find : {X : Type 0} → Option X → Option X → Option X
 or_find None r = r
 or_find (Some x) r = Some x
+
+pub differs : (i j : ℕ) → i < j → (i == j) ≡ false
+differs i j h = grind (arith, nat_tests)
+
+pub differs_more : (i j : ℕ) → j < i → (i == j) ≡ false
+differs_more i j h = grind (arith, nat_tests)
 
 module _ {K X : Type 0} (key : X → K) (same before : K → K → Bool) (at : ℕ → K)
     (same_at : (i j : ℕ) → same (at i) (at j) ≡ (i == j))
@@ -17,20 +24,6 @@ module _ {K X : Type 0} (key : X → K) (same before : K → K → Bool) (at : �
 
   before_by : (i j : ℕ) (k l : K) → k ≡ at i → l ≡ at j → before k l ≡ nat_lt i j
   before_by i j k l p q = ap (λ z. before z l) p ∙ ap (before (at i)) q ∙ before_at i j
-
-  by_false : {Y : Type 0} (b : Bool) (x y : Y) → b ≡ false → (if b then x else y) ≡ y
-  by_false true x y h = absurd cc
-  by_false false x y h = refl
-
-  by_true : {Y : Type 0} (b : Bool) (x y : Y) → b ≡ true → (if b then x else y) ≡ x
-  by_true true x y h = refl
-  by_true false x y h = absurd cc
-
-  differs : (i j : ℕ) → i < j → (i == j) ≡ false
-  differs i j h = grind (arith, nat_tests)
-
-  differs_more : (i j : ℕ) → j < i → (i == j) ≡ false
-  differs_more i j h = grind (arith, nat_tests)
 
   equals : (i j : ℕ) → i ≡ j → (i == j) ≡ true
   equals i j h = grind (arith, nat_tests)
@@ -42,16 +35,16 @@ module _ {K X : Type 0} (key : X → K) (same before : K → K → Bool) (at : �
   find_below n j [] rest s h = refl
   find_below n j (None ∷ ts) rest s h = find_below (n + 1) j ts rest s (omega arith)
   find_below n j (Some x ∷ ts) rest s h =
-      by_false (same (at j) (key x)) _ _ (same_by j n _ _ refl s.0 ∙ differs j n h) ∙ find_below (n + 1) j ts rest s.1 (omega arith)
+      cond-false (same (at j) (key x)) _ _ (same_by j n _ _ refl s.0 ∙ differs j n h) ∙ find_below (n + 1) j ts rest s.1 (omega arith)
 
   pub find_on : (n i j : ℕ) (ts : List (Option X)) (rest : List X) → AreKeyed key at n ts → j ≡ n + i
       → keyed.find key same (at j) (present_on ts rest) ≡ or_find (slice_index_or ts i None) (keyed.find key same (at j) rest)
   find_on n i j [] rest s e = refl
   find_on n zero j (None ∷ ts) rest s e = find_below (n + 1) j ts rest s (omega arith)
   find_on n (suc i) j (None ∷ ts) rest s e = find_on (n + 1) i j ts rest s (omega arith)
-  find_on n zero j (Some x ∷ ts) rest s e = by_true (same (at j) (key x)) _ _ (same_by j n _ _ refl s.0 ∙ equals j n (omega arith))
+  find_on n zero j (Some x ∷ ts) rest s e = cond-true (same (at j) (key x)) _ _ (same_by j n _ _ refl s.0 ∙ equals j n (omega arith))
   find_on n (suc i) j (Some x ∷ ts) rest s e =
-      by_false (same (at j) (key x)) _ _ (same_by j n _ _ refl s.0 ∙ differs_more j n (omega arith)) ∙ find_on (n + 1) i j ts rest s.1 (omega arith)
+      cond-false (same (at j) (key x)) _ _ (same_by j n _ _ refl s.0 ∙ differs_more j n (omega arith)) ∙ find_on (n + 1) i j ts rest s.1 (omega arith)
 
   -- ---- what is replaced
 
@@ -60,9 +53,9 @@ module _ {K X : Type 0} (key : X → K) (same before : K → K → Bool) (at : �
   replaced_on n i j x y [] rest s k e h = absurd cc
   replaced_on n zero j x y (None ∷ ts) rest s k e h = absurd cc
   replaced_on n (suc i) j x y (None ∷ ts) rest s k e h = replaced_on (n + 1) i j x y ts rest s k (omega arith) h
-  replaced_on n zero j x y (Some z ∷ ts) rest s k e h = by_true (same (key x) (key z)) _ _ (same_by j n _ _ k s.0 ∙ equals j n (omega arith))
+  replaced_on n zero j x y (Some z ∷ ts) rest s k e h = cond-true (same (key x) (key z)) _ _ (same_by j n _ _ k s.0 ∙ equals j n (omega arith))
   replaced_on n (suc i) j x y (Some z ∷ ts) rest s k e h =
-      by_false (same (key x) (key z)) _ _ (same_by j n _ _ k s.0 ∙ differs_more j n (omega arith))
+      cond-false (same (key x) (key z)) _ _ (same_by j n _ _ k s.0 ∙ differs_more j n (omega arith))
       ∙ ap (λ w. z ∷ w) (replaced_on (n + 1) i j x y ts rest s.1 k (omega arith) h)
 
   -- ---- what is taken out
@@ -72,9 +65,9 @@ module _ {K X : Type 0} (key : X → K) (same before : K → K → Bool) (at : �
   without_on n i j y [] rest s e h = absurd cc
   without_on n zero j y (None ∷ ts) rest s e h = absurd cc
   without_on n (suc i) j y (None ∷ ts) rest s e h = without_on (n + 1) i j y ts rest s (omega arith) h
-  without_on n zero j y (Some z ∷ ts) rest s e h = by_true (same (at j) (key z)) _ _ (same_by j n _ _ refl s.0 ∙ equals j n (omega arith))
+  without_on n zero j y (Some z ∷ ts) rest s e h = cond-true (same (at j) (key z)) _ _ (same_by j n _ _ refl s.0 ∙ equals j n (omega arith))
   without_on n (suc i) j y (Some z ∷ ts) rest s e h =
-      by_false (same (at j) (key z)) _ _ (same_by j n _ _ refl s.0 ∙ differs_more j n (omega arith))
+      cond-false (same (at j) (key z)) _ _ (same_by j n _ _ refl s.0 ∙ differs_more j n (omega arith))
       ∙ ap (λ w. z ∷ w) (without_on (n + 1) i j y ts rest s.1 (omega arith) h)
 
   -- ---- what is put in, before a rest that comes after it
@@ -83,7 +76,7 @@ module _ {K X : Type 0} (key : X → K) (same before : K → K → Bool) (at : �
       → keyed.with_inserted key before x (present_on ts rest) ≡ x ∷ present_on ts rest
   inserted_first n j x [] rest s k h r = r
   inserted_first n j x (None ∷ ts) rest s k h r = inserted_first (n + 1) j x ts rest s k (omega arith) r
-  inserted_first n j x (Some z ∷ ts) rest s k h r = by_true (before (key x) (key z)) _ _ (before_by j n _ _ k s.0 ∙ grind (arith, nat_tests))
+  inserted_first n j x (Some z ∷ ts) rest s k h r = cond-true (before (key x) (key z)) _ _ (before_by j n _ _ k s.0 ∙ grind (arith, nat_tests))
 
   pub inserted_at : (n i j : ℕ) (x : X) (ts : List (Option X)) (rest : List X) → AreKeyed key at n ts → key x ≡ at j → j ≡ n + i → i < length ts → slice_index_or ts i None ≡ None
       → keyed.with_inserted key before x rest ≡ x ∷ rest
@@ -93,7 +86,7 @@ module _ {K X : Type 0} (key : X → K) (same before : K → K → Bool) (at : �
   inserted_at n (suc i) j x (None ∷ ts) rest s k e w h r = inserted_at (n + 1) i j x ts rest s k (omega arith) (omega arith) h r
   inserted_at n zero j x (Some z ∷ ts) rest s k e w h r = absurd cc
   inserted_at n (suc i) j x (Some z ∷ ts) rest s k e w h r =
-      by_false (before (key x) (key z)) _ _ (before_by j n _ _ k s.0 ∙ grind (arith, nat_tests))
+      cond-false (before (key x) (key z)) _ _ (before_by j n _ _ k s.0 ∙ grind (arith, nat_tests))
       ∙ ap (λ w. z ∷ w) (inserted_at (n + 1) i j x ts rest s.1 k (omega arith) (omega arith) h r)
 
   pub inserted_end : (n j : ℕ) (x : X) (ts : List (Option X)) (rest : List X) → AreKeyed key at n ts → key x ≡ at j → j ≡ n + length ts → keyed.with_inserted key before x rest ≡ x ∷ rest
@@ -101,7 +94,7 @@ module _ {K X : Type 0} (key : X → K) (same before : K → K → Bool) (at : �
   inserted_end n j x [] rest s k e r = r
   inserted_end n j x (None ∷ ts) rest s k e r = inserted_end (n + 1) j x ts rest s k (omega arith) r
   inserted_end n j x (Some z ∷ ts) rest s k e r =
-      by_false (before (key x) (key z)) _ _ (before_by j n _ _ k s.0 ∙ grind (arith, nat_tests))
+      cond-false (before (key x) (key z)) _ _ (before_by j n _ _ k s.0 ∙ grind (arith, nat_tests))
       ∙ ap (λ w. z ∷ w) (inserted_end (n + 1) j x ts rest s.1 k (omega arith) r)
 
   -- ---- the keys stay
@@ -137,43 +130,35 @@ module _ {K X : Type 0} (key : X → K) (same before : K → K → Bool) (at : �
 -- ---- keys of another table
 
 module _ {K X : Type 0} (key : X → K) (same before : K → K → Bool) (at : ℕ → K) where
-  by_not : {Y : Type 0} (b : Bool) (x y : Y) → b ≡ false → (if b then x else y) ≡ y
-  by_not true x y h = absurd cc
-  by_not false x y h = refl
-
-  by_so : {Y : Type 0} (b : Bool) (x y : Y) → b ≡ true → (if b then x else y) ≡ x
-  by_so true x y h = refl
-  by_so false x y h = absurd cc
-
   pub find_other : (n : ℕ) (k : K) (ts : List (Option X)) (rest : List X) → AreKeyed key at n ts → ((i : ℕ) → same k (at i) ≡ false)
       → keyed.find key same k (present_on ts rest) ≡ keyed.find key same k rest
   find_other n k [] rest s h = refl
   find_other n k (None ∷ ts) rest s h = find_other (n + 1) k ts rest s h
-  find_other n k (Some z ∷ ts) rest s h = by_not (same k (key z)) _ _ (ap (same k) s.0 ∙ h n) ∙ find_other (n + 1) k ts rest s.1 h
+  find_other n k (Some z ∷ ts) rest s h = cond-false (same k (key z)) _ _ (ap (same k) s.0 ∙ h n) ∙ find_other (n + 1) k ts rest s.1 h
 
   pub replaced_other : (n : ℕ) (x : X) (ts : List (Option X)) (rest : List X) → AreKeyed key at n ts → ((i : ℕ) → same (key x) (at i) ≡ false)
       → keyed.with_replaced key same x (present_on ts rest) ≡ present_on ts (keyed.with_replaced key same x rest)
   replaced_other n x [] rest s h = refl
   replaced_other n x (None ∷ ts) rest s h = replaced_other (n + 1) x ts rest s h
   replaced_other n x (Some z ∷ ts) rest s h =
-      by_not (same (key x) (key z)) _ _ (ap (same (key x)) s.0 ∙ h n) ∙ ap (λ w. z ∷ w) (replaced_other (n + 1) x ts rest s.1 h)
+      cond-false (same (key x) (key z)) _ _ (ap (same (key x)) s.0 ∙ h n) ∙ ap (λ w. z ∷ w) (replaced_other (n + 1) x ts rest s.1 h)
 
   pub without_other : (n : ℕ) (k : K) (ts : List (Option X)) (rest : List X) → AreKeyed key at n ts → ((i : ℕ) → same k (at i) ≡ false)
       → keyed.without key same k (present_on ts rest) ≡ present_on ts (keyed.without key same k rest)
   without_other n k [] rest s h = refl
   without_other n k (None ∷ ts) rest s h = without_other (n + 1) k ts rest s h
   without_other n k (Some z ∷ ts) rest s h =
-      by_not (same k (key z)) _ _ (ap (same k) s.0 ∙ h n) ∙ ap (λ w. z ∷ w) (without_other (n + 1) k ts rest s.1 h)
+      cond-false (same k (key z)) _ _ (ap (same k) s.0 ∙ h n) ∙ ap (λ w. z ∷ w) (without_other (n + 1) k ts rest s.1 h)
 
   pub inserted_past : (n : ℕ) (x : X) (ts : List (Option X)) (rest : List X) → AreKeyed key at n ts → ((i : ℕ) → before (key x) (at i) ≡ false)
       → keyed.with_inserted key before x (present_on ts rest) ≡ present_on ts (keyed.with_inserted key before x rest)
   inserted_past n x [] rest s h = refl
   inserted_past n x (None ∷ ts) rest s h = inserted_past (n + 1) x ts rest s h
   inserted_past n x (Some z ∷ ts) rest s h =
-      by_not (before (key x) (key z)) _ _ (ap (before (key x)) s.0 ∙ h n) ∙ ap (λ w. z ∷ w) (inserted_past (n + 1) x ts rest s.1 h)
+      cond-false (before (key x) (key z)) _ _ (ap (before (key x)) s.0 ∙ h n) ∙ ap (λ w. z ∷ w) (inserted_past (n + 1) x ts rest s.1 h)
 
   pub inserted_front : (n : ℕ) (x : X) (ts : List (Option X)) (rest : List X) → AreKeyed key at n ts → ((i : ℕ) → before (key x) (at i) ≡ true) → keyed.with_inserted key before x rest ≡ x ∷ rest
       → keyed.with_inserted key before x (present_on ts rest) ≡ x ∷ present_on ts rest
   inserted_front n x [] rest s h r = r
   inserted_front n x (None ∷ ts) rest s h r = inserted_front (n + 1) x ts rest s h r
-  inserted_front n x (Some z ∷ ts) rest s h r = by_so (before (key x) (key z)) _ _ (ap (before (key x)) s.0 ∙ h n)
+  inserted_front n x (Some z ∷ ts) rest s h r = cond-true (before (key x) (key z)) _ _ (ap (before (key x)) s.0 ∙ h n)

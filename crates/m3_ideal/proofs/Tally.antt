@@ -10,6 +10,7 @@ use Rattle.m3_base.specs.Ideal.State.{Grant, parent_of, holder, holder_ep, is_do
 use Rattle.m3_base.specs.Ideal.GrantRules.{holds_at, is_open_child, new_grant}
 use Rattle.m3_base.specs.Lists.Counting.{one}
 use Rattle.m3_ideal.specs.Tally.{IsTallied, place_of, raised_at, lowered_at, held_raised, held_lowered, under_raised, under_lowered, MayRaise, MayLower, IsParent, IsFew, IsSome_under}
+use Rattle.m3_base.proofs.ListLookups.{length_pushed}
 
 -- ---- counts
 
@@ -218,14 +219,10 @@ more_pushed gs x h =
       under = λ g. count_push (is_open_child g) gs x ∙ ap (λ b. count_by (is_open_child g) gs + one b) (open_child g x h);
     }
 
-push_length : (gs : List Grant) (x : Grant) → length (gs ++ x ∷ []) ≡ length gs + 1
-push_length [] x = refl
-push_length (y ∷ gs) x = grind (arith, push_length gs x)
-
 pub tallied_push : (gs : List Grant) (held children : List ℕ) (line : GrantLine) (f : Fresh) → IsTallied gs held children → length gs < 4096
     → holder line < 64 → holder_ep line < 16 → IsParent (parent_of line) → IsTallied (gs ++ new_grant line f ∷ []) (held_raised line held) (under_raised (parent_of line) children)
 tallied_push gs held children line f t few a e p =
-    raised_tallied gs (gs ++ new_grant line f ∷ []) held children line t (more_pushed gs (new_grant line f) refl) (omega (arith, push_length gs (new_grant line f))) a e p
+    raised_tallied gs (gs ++ new_grant line f ∷ []) held children line t (more_pushed gs (new_grant line f) refl) (omega (arith, length_pushed gs (new_grant line f))) a e p
 
 is_few : (t : List ℕ) (gs : List Grant) (p : Option ℕ) → ((g : ℕ) → g < 4097 → slice_index_or t g 0 ≡ count_by (is_open_child g) gs) → length gs ≤ 4096 → IsParent p → IsFew p t
 is_few t gs None u f h = tt

@@ -1,8 +1,7 @@
 -- The flights of each issuer in a lane of its own, by their numbers.
 use Rattle.std.specs.Prelude.{◌≡◌, ℕ, ◌+◌, ◌-◌, List, [], ◌∷◌, length, map, slice_set, vec_len, vec_capacity, Option, Some, None}
-use Rattle.m3_base.specs.declared.ids.FlightId.{FlightId}
 use Rattle.m3_base.specs.declared.packet.Packet.{Packet}
-use Rattle.m3_base.specs.Ideal.Flights.{name_of}
+use Rattle.m3_base.specs.Ideal.Flights.{name_of, flight_name}
 use Rattle.m3_ideal.specs.Tables.{present_on, AreKeyed}
 use Rattle.m3_ideal.specs.declared.lane.Lane.{Lane}
 
@@ -16,9 +15,6 @@ pub record FlightTable : Type 0 where
   pub nexts : List ℕ
   pub rooms : List ℕ
 
-abbrev pub name_at : ℕ → ℕ → FlightId
-name_at a n = record { issuer = a; number = n }
-
 abbrev pub flights_in : List (List (Option Packet)) → List Packet
 flights_in [] = []
 flights_in (l ∷ ls) = present_on l (flights_in ls)
@@ -26,7 +22,7 @@ flights_in (l ∷ ls) = present_on l (flights_in ls)
 -- the lane of issuer a, and those after it: at each index a flight of that number
 abbrev pub AreLanes : ℕ → List (List (Option Packet)) → Type 0
 AreLanes a [] = Unit {0}
-AreLanes a (l ∷ ls) = AreKeyed name_of (name_at a) 0 l × AreLanes (a + 1) ls
+AreLanes a (l ∷ ls) = AreKeyed name_of (flight_name a) 0 l × AreLanes (a + 1) ls
 
 abbrev pub lane_of : Lane → List (Option Packet)
 lane_of l = l.flights.items

@@ -21,3 +21,4 @@ pub mod Shows
 pub mod GrantView
 pub mod Tally
 pub mod Making
+pub mod Ideal

@@ -5,7 +5,8 @@ ghost use Rattle.m3_base.specs.Ideal.State.{context_of, new_context_in};
 ghost use Rattle.m3_base.specs.Ideal.Context.{new_context};
 ghost use Rattle.m3_ideal.specs.Issuing.{IssuesAt};
 ghost use Rattle.m3_ideal.specs.Landing.{Lands, GivesTo, InstallsTo, Closes, SettlesBy, Is_freed};
-ghost use Rattle.m3_ideal.specs.Contexts.{AtContext, AtKept};
+ghost use Rattle.m3_ideal.specs.Contexts.{AtContext, AtKept, IsDeclared};
+ghost use Rattle.m3_ideal.specs.Ideal.NextNumbers.{SameNexts};
 
 use crate::context::Context;
 use crate::issued::Issued;
@@ -57,6 +58,17 @@ impl Contexts {
         }
     }
 
+    /// The activity of this number, where it has a context.
+    #[tactic(auto, using(crate::proofs::Seats::context_at))]
+    pub fn declared(&self, number: u8) -> Option<ActId>
+        ensures { IsDeclared result number self.now }
+    {
+        match self.table.get(usize::from(number)) {
+            Some(Some(context)) => Some(context.act()),
+            _ => None,
+        }
+    }
+
     /// A new context, of an activity that has none. After out of memory nothing has changed.
     pub fn add(&mut self, alloc: Global, act: ActId) -> Result<(), AllocError>
         requires { context_of act self.old ≡ None }
@@ -76,7 +88,8 @@ impl Contexts {
         command: Command,
     ) -> Result<Option<Issued>, AllocError>
         requires { IsSome (context_of act self.old) }
-        ensures { AtContext (context_of act self.old) self.old self.new (λ c d. IssuesAt result command c d) }
+        ensures at { AtContext (context_of act self.old) self.old self.new (λ c d. IssuesAt result command c d) }
+        ensures kept { OnErr result (self.new ≡ self.old) }
     {
         let Some(context) = &mut self.table[act.number() as usize] else {
             unreachable!()
@@ -93,7 +106,8 @@ impl Contexts {
         letter: Letter,
     ) -> Result<Option<Refusal>, Letter>
         requires { IsSome (context_of to self.old) }
-        ensures { AtKept (context_of to self.old) self.old self.new (Lands result ep grant letter) }
+        ensures at { AtKept (context_of to self.old) self.old self.new (Lands result ep grant letter) }
+        ensures agree { SameNexts self.old self.new }
     {
         let Some(context) = &mut self.table[to.number() as usize] else {
             unreachable!()
@@ -104,7 +118,9 @@ impl Contexts {
     /// A credit goes to an activity.
     pub fn give(&mut self, to: ActId, send: GrantId) -> Result<bool, AllocError>
         requires { IsSome (context_of to self.old) }
-        ensures { AtKept (context_of to self.old) self.old self.new (GivesTo send result) }
+        ensures at { AtKept (context_of to self.old) self.old self.new (GivesTo send result) }
+        ensures agree { SameNexts self.old self.new }
+        ensures kept { OnErr result (self.new ≡ self.old) }
     {
         let Some(context) = &mut self.table[to.number() as usize] else {
             unreachable!()
@@ -121,7 +137,9 @@ impl Contexts {
         fresh: &Fresh,
     ) -> Result<(), AllocError>
         requires { IsSome (context_of to self.old) }
-        ensures { AtKept (context_of to self.old) self.old self.new (InstallsTo ep fresh.now result) }
+        ensures at { AtKept (context_of to self.old) self.old self.new (InstallsTo ep fresh.now result) }
+        ensures agree { SameNexts self.old self.new }
+        ensures kept { OnErr result (self.new ≡ self.old) }
     {
         let Some(context) = &mut self.table[to.number() as usize] else {
             unreachable!()
@@ -132,7 +150,8 @@ impl Contexts {
     /// The kernel closes the live record of a grant at an activity's endpoint.
     pub fn close(&mut self, to: ActId, ep: EpId, grant: GrantId) -> Option<bool>
         requires { IsSome (context_of to self.old) }
-        ensures { AtKept (context_of to self.old) self.old self.new (Closes result ep grant) }
+        ensures at { AtKept (context_of to self.old) self.old self.new (Closes result ep grant) }
+        ensures agree { SameNexts self.old self.new }
     {
         let Some(context) = &mut self.table[to.number() as usize] else {
             unreachable!()
@@ -148,7 +167,9 @@ impl Contexts {
         answer: &Answer,
     ) -> Result<Option<Option<GrantId>>, AllocError>
         requires { IsSome (context_of act self.old) }
-        ensures { AtKept (context_of act self.old) self.old self.new (SettlesBy result number answer.now) }
+        ensures at { AtKept (context_of act self.old) self.old self.new (SettlesBy result number answer.now) }
+        ensures agree { SameNexts self.old self.new }
+        ensures kept { OnErr result (self.new ≡ self.old) }
     {
         let Some(context) = &mut self.table[act.number() as usize] else {
             unreachable!()
@@ -159,7 +180,8 @@ impl Contexts {
     /// Frees an endpoint that has a closing record of this grant and no flying command.
     pub fn free(&mut self, act: ActId, ep: EpId, grant: GrantId) -> bool
         requires { IsSome (context_of act self.old) }
-        ensures { AtKept (context_of act self.old) self.old self.new (Is_freed result ep grant) }
+        ensures at { AtKept (context_of act self.old) self.old self.new (Is_freed result ep grant) }
+        ensures agree { SameNexts self.old self.new }
     {
         let Some(context) = &mut self.table[act.number() as usize] else {
             unreachable!()

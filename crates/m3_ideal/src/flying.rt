@@ -4,7 +4,7 @@ ghost use Rattle.std.specs.Prelude.{◌≡◌, ◌==◌};
 ghost use Rattle.std.specs.List.{list_any, position};
 ghost use Rattle.m3_base.specs.Ideal.Landing.{is_command_at};
 ghost use Rattle.m3_ideal.specs.FlyingView.{kind_of};
-ghost use Rattle.m3_ideal.specs.Places.{IsFlyingPlaceOf};
+ghost use Rattle.m3_base.specs.Ideal.Positions.{IsFlyingPlaceOf};
 
 use m3_base::ids::EpId;
 use std::marker::Model;
@@ -89,7 +89,7 @@ pub fn is_used(flying: &[Flying], ep: EpId) -> bool
 }
 
 /// The place of the command of this number.
-#[tactic(auto, using(crate::proofs::Places::flying_place))]
+#[tactic(auto, using(m3_base::proofs::Positions::flying_place))]
 pub fn flying_place(flying: &[Flying], number: u32) -> Option<usize>
     ensures { IsFlyingPlaceOf flying.now number result }
 {

@@ -1,12 +1,11 @@
 //! The records that endpoints have.
 
 ghost use Rattle.std.specs.Prelude.{◌≡◌, ◌+◌, ◌-◌, ◌==◌, ◌<◌, nat_lt, true, false, None, Some, IsOk, IfOk, OnOk, OnErr, length, slice_get, option_copied, not};
-ghost use Rattle.m3_base.specs.Ideal.ReceiveRecord.{is_full, with_unread, without_fetched, with_mark_at, fetched_at, unmarked_message};
+ghost use Rattle.m3_base.specs.Ideal.ReceiveRecord.{is_full, with_unread, without_fetched, with_mark_at, fetched_at, unmarked_message, fetched_token, fetched_one};
 ghost use Rattle.m3_base.specs.Ideal.Issue.{less_one, may_read, may_write, access_refusal};
 ghost use Rattle.m3_base.specs.Ideal.Landing.{one_more};
 ghost use Rattle.m3_base.specs.Ideal.Credits.{queued_at};
-ghost use Rattle.m3_base.specs.Ideal.Context.{Receives};
-ghost use Rattle.m3_ideal.specs.Records.{new_receive, fetched_token, after_fetch};
+ghost use Rattle.m3_base.specs.Ideal.Context.{Receives, empty_record};
 
 use crate::fetched::{Fetched, mark, remove, token_place};
 use crate::letter::Letter;
@@ -88,7 +87,7 @@ impl ReceiveEnd {
         slots: u8,
         size: u16,
     ) -> Result<ReceiveEnd, AllocError>
-        ensures { IfOk result (λ r. r ≡ new_receive grant slots size) }
+        ensures { IfOk result (λ r. r ≡ empty_record grant slots size) }
     {
         let unread = VecDeque::with_capacity(alloc, usize::from(slots))?;
         let fetched = Vec::with_capacity(alloc, usize::from(slots))?;
@@ -164,7 +163,7 @@ impl ReceiveEnd {
     /// nothing has changed. None exactly where none is unread.
     pub fn fetch(&mut self) -> Result<Option<u32>, AllocError>
         ensures token { IfOk result (λ t. t ≡ fetched_token self.old self.old.unread) }
-        ensures fetched { OnOk result (self.new ≡ after_fetch self.old self.old.unread) }
+        ensures fetched { OnOk result (self.new ≡ fetched_one self.old self.old.unread) }
         ensures kept { OnErr result (self.new ≡ self.old) }
     {
         let token = self.next_token;

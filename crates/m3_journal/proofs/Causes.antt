@@ -1,7 +1,5 @@
 -- Outcomes that are printed are words of visible characters, and are read back.
-use Rattle.std.proofs.Common.{◌≡◌, ℕ, ◌^◌, ◌<◌, ◌≤◌, Bool, true, false, ◌&&◌, List, [], ◌∷◌, ◌++◌, length, Option, Some, None, Result, Ok, Err, refl, arith, lit<, codes}
-use Rattle.std.specs.Prelude.{decimal}
-use Rattle.std.specs.List.{list_all}
+use Rattle.std.proofs.Common.{◌≡◌, ℕ, ◌^◌, ◌<◌, ◌≤◌, Bool, true, false, ◌&&◌, [], ◌∷◌, ◌++◌, Ok, refl, arith, lit<, codes}
 use Rattle.std.specs.Str.{bytes_eq}
 use Rattle.m3_base.specs.declared.command.Answer.{Answer}
 use Rattle.m3_base.specs.declared.command.Answer.TheVariants as answer
@@ -11,29 +9,20 @@ use Rattle.m3_base.specs.declared.event.IdleWhy.{IdleWhy}
 use Rattle.m3_base.specs.declared.event.IdleWhy.TheVariants as idle
 use Rattle.m3_base.specs.declared.event.No.{No}
 use Rattle.m3_base.specs.declared.event.No.TheVariants as no
-use Rattle.m3_base.specs.declared.event.Outcome.{Outcome}
-use Rattle.m3_base.specs.declared.event.Said.{Said}
 use Rattle.m3_base.specs.declared.event.Said.TheVariants as said
-use Rattle.m3_base.specs.declared.ids.FlightId.{FlightId}
 use Rattle.m3_text.specs.declared.hexes.HexCase.TheVariants as case
-use Rattle.m3_text.specs.Hex.{hex_text}
-use Rattle.m3_text.specs.Lines.{is_word}
-use Rattle.m3_text.specs.Printing.{flight_word}
-use Rattle.m3_text.specs.ReadBack.{IsFlight}
 use Rattle.m3_text.specs.Refusable.{◌>>=◌}
-use Rattle.m3_text.proofs.ValuesAgain.{flight_again}
-use Rattle.m3_script.proofs.NumbersAgain.{within_again, act_again, id_again, u32_again, length_again, label_again, bytes_again}
-use Rattle.m3_script.specs.InRange.{Within, ActInRange, IdInRange, WordInRange}
-use Rattle.m3_journal.specs.Outcomes.{refusal_code, refusal_words, answer_words, idle_word, no_word, way_word, said_words, outcome_words}
+use Rattle.m3_script.proofs.NumbersAgain.{bytes_again}
+use Rattle.m3_journal.specs.Outcomes.{answer_words, idle_word, no_word, way_word, refusal_digits}
 use Rattle.m3_base.specs.RefusalCodes.{refusal_name}
-use Rattle.m3_journal.specs.Spelled.{AnswerInRange, MessageInRange, SaidInRange, may_restore, RestoreInRange}
+use Rattle.m3_journal.specs.Spelled.{AnswerInRange}
 use Rattle.m3_journal.specs.Reading.Causes.{refusal_named, later_refusal_named, refusal_with_code, refusal_of, idle_of, no_of, later_no_of, file_no_of}
-use Rattle.m3_journal.specs.Reading.Outcomes.{bytes_answer_of, refused_answer_of, answer_of, named_answer_of, closing_answer_of, answered_of, file_word_of, plain_of, cause_said_of, act_said_of, flight_said_of, flight_and_grant, held_of, credit_of, refused_of, grant_said_of, triple_of, way_of, order_sent_of, done_of, land_refused_of, message_of, reply_message_of, extent_of, long_of, more_of, said_of, is_restoring, restored_of, outcome_of}
+use Rattle.m3_journal.specs.Reading.Outcomes.{bytes_answer_of, refused_answer_of, answer_of, way_of}
 use Rattle.m3_journal.proofs.ClearWords.{is_clear}
 
 -- ---- causes
 
-pub refusal_again : (x : Refusal) → refusal_of (refusal_code x) (refusal_name x) ≡ Ok x
+pub refusal_again : (x : Refusal) → refusal_of (refusal_digits x) (refusal_name x) ≡ Ok x
 unfolding refusal_named later_refusal_named refusal_with_code
 refusal_again refusal.NoEndpoint = refl
 refusal_again refusal.NoCredits = refl
@@ -46,7 +35,7 @@ refusal_again refusal.NoReplyWanted = refl
 refusal_again refusal.NoSuchToken = refl
 refusal_again refusal.BadReplyEndpoint = refl
 
-pub code_clear : (x : Refusal) → is_clear (refusal_code x) ≡ true
+pub code_clear : (x : Refusal) → is_clear (refusal_digits x) ≡ true
 code_clear refusal.NoEndpoint = refl
 code_clear refusal.NoCredits = refl
 code_clear refusal.TooLarge = refl
@@ -71,7 +60,7 @@ name_clear refusal.NoSuchToken = refl
 name_clear refusal.BadReplyEndpoint = refl
 
 -- no refusal's code is a word that could end an outcome
-pub code_is_no_restore : (x : Refusal) → bytes_eq (refusal_code x) (codes "restore") ≡ false
+pub code_is_no_restore : (x : Refusal) → bytes_eq (refusal_digits x) (codes "restore") ≡ false
 code_is_no_restore refusal.NoEndpoint = refl
 code_is_no_restore refusal.NoCredits = refl
 code_is_no_restore refusal.TooLarge = refl
@@ -83,7 +72,7 @@ code_is_no_restore refusal.NoReplyWanted = refl
 code_is_no_restore refusal.NoSuchToken = refl
 code_is_no_restore refusal.BadReplyEndpoint = refl
 
-pub code_is_no_closed : (x : Refusal) → bytes_eq (refusal_code x) (codes "closed") ≡ false
+pub code_is_no_closed : (x : Refusal) → bytes_eq (refusal_digits x) (codes "closed") ≡ false
 code_is_no_closed refusal.NoEndpoint = refl
 code_is_no_closed refusal.NoCredits = refl
 code_is_no_closed refusal.TooLarge = refl

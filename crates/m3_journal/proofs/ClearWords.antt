@@ -1,5 +1,5 @@
 -- What values are printed as is words without a colon.
-use Rattle.std.proofs.Common.{◌≡◌, ℕ, zero, suc, ◌-◌, ◌^◌, ◌<◌, ◌≤◌, Bool, true, false, not, ◌&&◌, leb, ltb, eqb, List, [], ◌∷◌, ◌++◌, length, get_or, refl, arith, lit<, codes}
+use Rattle.std.proofs.Common.{◌≡◌, ℕ, zero, suc, ◌-◌, ◌^◌, ◌<◌, ◌≤◌, Bool, true, false, not, ◌&&◌, ltb, eqb, List, [], ◌∷◌, ◌++◌, length, get_or, refl, arith, lit<, codes}
 use Rattle.std.specs.Prelude.{decimal, if◌then◌else◌}
 use Rattle.std.specs.List.{list_all, AllPass}
 use Rattle.std.specs.Str.{all_ascii_digits}
@@ -13,13 +13,15 @@ use Rattle.m3_base.specs.declared.ids.FlightId.{FlightId}
 use Rattle.m3_base.specs.FileName.{is_visible}
 use Rattle.m3_text.specs.Hex.{hex_text}
 use Rattle.m3_text.specs.Lines.{is_word}
-use Rattle.m3_text.specs.Printing.{issuer_word, flight_word}
+use Rattle.m3_text.specs.Printing.{flight_word}
 use Rattle.m3_text.specs.ReadBack.{IsFlight, BytesWithin}
-use Rattle.m3_base.proofs.Bools.{both_true as split}
 use Rattle.m3_text.proofs.Visible.{own, flight_text}
-use Rattle.m3_script.specs.InRange.{Within, ActInRange, EpInRange, IdInRange, WordInRange}
+use Rattle.m3_script.specs.InRange.{ActInRange, EpInRange, IdInRange, WordInRange}
 use Rattle.m3_journal.specs.Reading.Entries.{is_event_end}
 use Rattle.m3_text.proofs.LineForm.{no}
+use Rattle.std.proofs.lemmas.Bool.{and_parts as split}
+use Rattle.m3_base.specs.Limits.{Within}
+use Rattle.m3_base.specs.Display.{issuer_text}
 
 abbrev pub is_clear_byte : ℕ → Bool
 is_clear_byte b = is_visible b && not (eqb b 58)
@@ -126,7 +128,7 @@ hex_clear (b ∷ bytes) are =
 pub bytes_clear : (max : ℕ) (bytes : List ℕ) → BytesWithin max bytes → is_clear (hex_text bytes) ≡ true
 bytes_clear max bytes r = hex_clear bytes r.0
 
-issuer_clear : (i : ℕ) → i ≤ 64 → is_clear (issuer_word i) ≡ true
+issuer_clear : (i : ℕ) → i ≤ 64 → is_clear (issuer_text i) ≡ true
 issuer_clear i le = go (eqb i 64) (number_clear i (omega arith))
   where
     go : (b : Bool) → is_clear (decimal i) ≡ true → is_clear (if b then codes "k" else decimal i) ≡ true
@@ -143,4 +145,4 @@ joined_clear (c ∷ v) w is h =
 
 pub flight_clear : (id : FlightId) → IsFlight id → is_clear (flight_word id) ≡ true
 flight_clear id is =
-    rw (flight_text id) (joined_clear (issuer_word id.issuer) (46 ∷ decimal id.number) (issuer_clear id.issuer is.issuer) (decimal_bytes id.number (omega (arith, is.limit))))
+    rw (flight_text id) (joined_clear (issuer_text id.issuer) (46 ∷ decimal id.number) (issuer_clear id.issuer is.issuer) (decimal_bytes id.number (omega (arith, is.limit))))

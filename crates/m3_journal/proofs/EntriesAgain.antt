@@ -1,10 +1,9 @@
 -- Entries that are printed are cut where they were joined, and are read back.
-use Rattle.std.proofs.Common.{◌≡◌, ℕ, zero, suc, ◌+◌, ◌-◌, ◌<◌, ◌≤◌, Bool, true, false, not, ◌&&◌, eqb, ltb, List, [], ◌∷◌, ◌++◌, length, get_or, take, drop, Option, Some, None, Result, Ok, Err, refl, sym, ap, ◌∙◌, subst, arith, inl, inr, codes, append_assoc, append-nil, length-append}
-use Rattle.std.specs.Prelude.{decimal}
+use Rattle.std.proofs.Common.{◌≡◌, ℕ, zero, suc, ◌+◌, ◌-◌, ◌<◌, ◌≤◌, Bool, true, false, not, ◌&&◌, eqb, ltb, List, [], ◌∷◌, ◌++◌, length, get_or, take, Option, Some, None, Ok, Err, refl, sym, ap, ◌∙◌, subst, arith, inl, inr, codes, append_assoc, append-nil, length-append}
 use Rattle.std.specs.List.{list_all}
 use Rattle.std.specs.Str.{bytes_eq}
 use Rattle.std.proofs.Math.Seq.{take-append_seam, drop-append-add, get_or-append_seam, get_or-append_right}
-use Rattle.std.proofs.lemmas.Bool.{cases_eq}
+use Rattle.std.proofs.lemmas.Bool.{cases_eq, and_parts as split}
 use Rattle.std.proofs.lemmas.List.Folds.{list_all-append}
 use Rattle.m3_base.specs.declared.command.Command.{Command}
 use Rattle.m3_base.specs.declared.command.Command.TheVariants as command
@@ -15,32 +14,29 @@ use Rattle.m3_base.specs.declared.event.Made.{Made}
 use Rattle.m3_base.specs.declared.event.Made.TheVariants as made
 use Rattle.m3_base.specs.declared.event.Said.{Said}
 use Rattle.m3_base.specs.declared.event.Said.TheVariants as said
-use Rattle.m3_base.specs.declared.order.FileLine.{FileLine}
 use Rattle.m3_base.specs.declared.order.FileLine.TheVariants as file
 use Rattle.m3_base.specs.declared.order.Order.{Order}
 use Rattle.m3_base.specs.declared.order.Order.TheVariants as order
 use Rattle.m3_base.specs.FileName.{is_visible}
 use Rattle.m3_text.specs.declared.hexes.HexCase.TheVariants as case
-use Rattle.m3_text.specs.declared.refusal.Why.{Why}
 use Rattle.m3_text.specs.declared.refusal.Why.TheVariants as why
 use Rattle.m3_text.specs.Lines.{is_word}
 use Rattle.m3_text.specs.Printing.{words_text, line_text}
 use Rattle.m3_text.specs.Refusable.{◌>>=◌}
 use Rattle.m3_text.specs.LineForm.{word}
-use Rattle.m3_text.specs.CauseOrder.{both}
-use Rattle.m3_base.proofs.Bools.{both_true as split}
 use Rattle.m3_script.specs.Events.{event_of, order_of, entry_event_of}
-use Rattle.m3_journal.specs.Commands.{optional, command_words}
-use Rattle.m3_journal.specs.Events.{move_words, event_words}
+use Rattle.m3_journal.specs.Commands.{optional}
+use Rattle.m3_journal.specs.Events.{event_words}
 use Rattle.m3_journal.specs.Outcomes.{said_words, outcome_words}
-use Rattle.m3_journal.specs.Spelled.{IsPaired, is_idle, EntryInRange}
-use Rattle.m3_journal.specs.Reading.Entries.{unless_form, is_event_end, is_paired, sides_of, paired_of, entry_at, entry_before, entry_of}
+use Rattle.m3_journal.specs.Spelled.{IsPaired, EntryInRange}
+use Rattle.m3_journal.specs.Reading.Entries.{is_event_end, is_paired, sides_of, paired_of, entry_at, entry_before, entry_of}
 use Rattle.m3_journal.specs.JournalText.{entry_line}
 use Rattle.m3_journal.proofs.Spacing.{spaced_more}
 use Rattle.m3_journal.proofs.ClearWords.{is_clear, clear_words, clear_at, clear_is_no_end}
 use Rattle.m3_journal.proofs.FormsAgain.{event_again}
 use Rattle.m3_journal.proofs.OutcomesAgain.{outcome_again, outcome_clear}
 use Rattle.m3_journal.proofs.VisibleWords.{event_shown}
+use Rattle.m3_base.specs.Journal.Entry.{is_idle}
 
 -- ---- the last word of an event
 

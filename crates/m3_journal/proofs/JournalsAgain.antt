@@ -16,7 +16,6 @@ use Rattle.m3_text.specs.Lines.{is_plain}
 use Rattle.m3_text.specs.Printing.{line_text, text_of_lines}
 use Rattle.m3_text.specs.Refusable.{◌>>=◌}
 use Rattle.m3_text.proofs.LinesAgain.{lines_again}
-use Rattle.m3_base.proofs.Bools.{both_true as split}
 use Rattle.m3_script.specs.InRange.{MachineInRange, SetupInRange}
 use Rattle.m3_script.specs.ScriptText.{Refused}
 use Rattle.m3_journal.specs.declared.reading.line.Line.{Line}
@@ -28,6 +27,7 @@ use Rattle.m3_journal.specs.Spelled.{EntryInRange, AuditInRange, IsSpelled}
 use Rattle.m3_journal.specs.JournalText.{setup_line, setup_lines, entry_line, audit_line, journal_lines, journal_text}
 use Rattle.m3_journal.specs.Reading.Journals.{DraftValue, JournalValue, empty_draft, line_of_bytes, draft_with_content, next_stage, draft_with_mark, draft_with_line, draft_after_line, draft_after_string, draft_after_all, at_line, journal_of_reading, journal_of_draft, then_next, journal_of, journal_from, setup_strings, entry_strings, audit_strings}
 use Rattle.m3_journal.proofs.LinesAgain.{head_read, begin_read, end_read, machine_read, setup_read, entry_read, audit_read, machine_plain, setup_plain, entry_plain, audit_plain}
+use Rattle.std.proofs.lemmas.Bool.{and_parts as split}
 
 -- ---- lines that say something, whether they stand in a text or in JSON
 

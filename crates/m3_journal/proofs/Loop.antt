@@ -1,5 +1,5 @@
 -- Reading line after line, as a loop does.
-use Rattle.std.proofs.Common.{◌≡◌, ℕ, ◌+◌, true, List, ◌∷◌, length, Result, Ok, Err, sym, eqb}
+use Rattle.std.proofs.Common.{◌≡◌, ℕ, ◌+◌, true, List, ◌∷◌, length, Result, Ok, sym, eqb}
 use Rattle.std.proofs.lemmas.Bool.{eqb-true}
 use Rattle.std.specs.Str.Lines.{lines}
 use Rattle.std.proofs.lemmas.List.{nil_from_length}
@@ -8,9 +8,8 @@ use Rattle.m3_text.specs.declared.refusal.LineRefusal.TheVariants as refusals
 use Rattle.m3_text.specs.declared.refusal.Why.{Why}
 use Rattle.m3_text.specs.Refusable.{Fails}
 use Rattle.m3_script.specs.ScriptText.{Refused}
-use Rattle.m3_script.specs.ParserView.{refusal}
-use Rattle.m3_journal.specs.Reading.Journals.{DraftValue, JournalValue, draft_after_all, at_line, journal_of_reading, journal_of_draft}
-use Rattle.m3_journal.specs.Reading.Refusals.{Refuses}
+use Rattle.m3_script.specs.ParserView.{refusal, Refuses}
+use Rattle.m3_journal.specs.Reading.Journals.{DraftValue, JournalValue, draft_after_all, journal_of_reading, journal_of_draft}
 
 module _ (step : DraftValue → List ℕ → Result DraftValue Why) where
   pub goes_on : (l : List ℕ) (ls : List (List ℕ)) (d e : DraftValue) (n : ℕ) (total : Result JournalValue Refused) → step d l ≡ Ok e

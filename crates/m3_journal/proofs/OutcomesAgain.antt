@@ -1,41 +1,30 @@
 -- Outcomes that are printed, with the activity that they restored, are read back.
-use Rattle.std.proofs.Common.{◌≡◌, ℕ, ◌^◌, ◌<◌, ◌≤◌, Bool, true, false, ◌&&◌, leb, List, [], ◌∷◌, ◌++◌, append-nil, length, length-append, Option, Some, None, Result, Ok, Err, refl, arith, lit<, codes}
+use Rattle.std.proofs.Common.{◌≡◌, ℕ, ◌^◌, ◌<◌, ◌≤◌, Bool, true, false, ◌&&◌, leb, List, [], ◌∷◌, ◌++◌, append-nil, length, length-append, Option, Some, None, Ok, refl, arith, lit<, codes}
 use Rattle.std.specs.Prelude.{decimal}
 use Rattle.std.specs.List.{list_all}
-use Rattle.std.specs.Str.{bytes_eq}
 use Rattle.m3_base.specs.declared.command.Answer.{Answer}
 use Rattle.m3_base.specs.declared.command.Answer.TheVariants as answer
-use Rattle.m3_base.specs.declared.command.Refusal.{Refusal}
 use Rattle.m3_base.specs.declared.command.Refusal.TheVariants as refusal
-use Rattle.m3_base.specs.declared.event.IdleWhy.{IdleWhy}
 use Rattle.m3_base.specs.declared.event.IdleWhy.TheVariants as idle
 use Rattle.m3_base.specs.declared.event.No.{No}
 use Rattle.m3_base.specs.declared.event.No.TheVariants as no
-use Rattle.m3_base.specs.declared.event.Outcome.{Outcome}
 use Rattle.m3_base.specs.declared.event.Said.{Said}
 use Rattle.m3_base.specs.declared.event.Said.TheVariants as said
 use Rattle.m3_base.specs.declared.ids.FlightId.{FlightId}
 use Rattle.m3_text.specs.declared.hexes.HexCase.TheVariants as case
-use Rattle.m3_text.specs.Hex.{hex_text}
-use Rattle.m3_text.specs.Lines.{is_word}
-use Rattle.m3_text.specs.Printing.{flight_word}
-use Rattle.m3_text.specs.ReadBack.{IsFlight}
 use Rattle.m3_text.specs.Refusable.{◌>>=◌}
-use Rattle.m3_base.proofs.Bools.{both_true as split}
 use Rattle.std.proofs.lemmas.Bool.Decides.{nat_tests}
 use Rattle.std.proofs.lemmas.List.Folds.{list_all-append}
-use Rattle.m3_text.proofs.ValuesAgain.{flight_again}
-use Rattle.m3_script.proofs.NumbersAgain.{within_again, act_again, id_again, u32_again, length_again, label_again, bytes_again}
-use Rattle.m3_script.specs.InRange.{Within, ActInRange, IdInRange, WordInRange}
+use Rattle.m3_script.proofs.NumbersAgain.{act_again}
+use Rattle.m3_script.specs.InRange.{ActInRange}
 use Rattle.m3_journal.specs.Commands.{optional}
-use Rattle.m3_journal.specs.Outcomes.{refusal_code, refusal_words, answer_words, idle_word, no_word, way_word, said_words, outcome_words}
-use Rattle.m3_base.specs.RefusalCodes.{refusal_name}
-use Rattle.m3_journal.specs.Spelled.{AnswerInRange, MessageInRange, SaidInRange, may_restore, RestoreInRange}
-use Rattle.m3_journal.specs.Reading.Causes.{refusal_named, later_refusal_named, refusal_with_code, refusal_of, idle_of, no_of, later_no_of, file_no_of}
-use Rattle.m3_journal.specs.Reading.Outcomes.{bytes_answer_of, refused_answer_of, answer_of, named_answer_of, closing_answer_of, answered_of, file_word_of, plain_of, cause_said_of, act_said_of, flight_said_of, flight_and_grant, held_of, credit_of, refused_of, grant_said_of, triple_of, way_of, order_sent_of, done_of, land_refused_of, message_of, reply_message_of, extent_of, long_of, more_of, said_of, is_restoring, restored_of, outcome_of, has_tail, front}
+use Rattle.m3_journal.specs.Outcomes.{said_words}
+use Rattle.m3_journal.specs.Spelled.{SaidInRange, may_restore, RestoreInRange}
+use Rattle.m3_journal.specs.Reading.Outcomes.{is_restoring, restored_of, outcome_of, has_tail, front}
 use Rattle.m3_journal.proofs.ClearWords.{is_clear, act_clear}
 use Rattle.m3_journal.proofs.Causes.{code_is_no_restore}
 use Rattle.m3_journal.proofs.SaidAgain.{said_again, said_clear}
+use Rattle.std.proofs.lemmas.Bool.{and_parts as split}
 
 -- ---- without an activity at the end
 

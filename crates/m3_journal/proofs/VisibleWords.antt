@@ -1,13 +1,10 @@
 -- What is printed is words of visible characters, form by form; those of a setup have no colon.
-use Rattle.std.proofs.Common.{◌≡◌, ℕ, ◌^◌, ◌<◌, ◌≤◌, Bool, true, false, ◌&&◌, List, [], ◌∷◌, ◌++◌, Option, Some, None, refl, arith, lit<, codes}
+use Rattle.std.proofs.Common.{◌≡◌, ℕ, ◌^◌, ◌<◌, ◌≤◌, true, false, ◌&&◌, [], ◌∷◌, ◌++◌, Option, Some, None, refl, arith, lit<}
 use Rattle.std.specs.Prelude.{decimal}
 use Rattle.std.specs.List.{list_all}
-use Rattle.std.proofs.lemmas.List.Folds.{list_all-append}
-use Rattle.m3_base.specs.declared.command.Answer.{Answer}
 use Rattle.m3_base.specs.declared.command.Answer.TheVariants as answer
 use Rattle.m3_base.specs.declared.command.Command.{Command}
 use Rattle.m3_base.specs.declared.command.Command.TheVariants as command
-use Rattle.m3_base.specs.declared.command.Refusal.{Refusal}
 use Rattle.m3_base.specs.declared.command.Refusal.TheVariants as refusal
 use Rattle.m3_base.specs.declared.event.Event.{Event}
 use Rattle.m3_base.specs.declared.event.Event.TheVariants as event
@@ -23,15 +20,14 @@ use Rattle.m3_base.specs.declared.packet.Perm.{Perm}
 use Rattle.m3_base.specs.declared.packet.Perm.TheVariants as perm
 use Rattle.m3_base.specs.declared.setup_line.SetupLine.{SetupLine}
 use Rattle.m3_base.specs.declared.setup_line.SetupLine.TheVariants as setup
-use Rattle.m3_text.specs.Hex.{hex_text}
 use Rattle.m3_text.specs.Lines.{is_word}
-use Rattle.m3_text.specs.ReadBack.{BytesWithin}
-use Rattle.m3_script.specs.InRange.{Within, ActInRange, EpInRange, IdInRange, WordInRange, CommandInRange, GrantInRange, ExtentInRange, MachineInRange, SetupInRange, OrderInRange, FileInRange, EventInRange, MoveInRange}
+use Rattle.m3_script.specs.InRange.{ActInRange, EpInRange, IdInRange, WordInRange, CommandInRange, GrantInRange, MachineInRange, SetupInRange, OrderInRange, FileInRange, EventInRange, MoveInRange}
 use Rattle.m3_journal.specs.Commands.{command_words}
-use Rattle.m3_journal.specs.Orders.{perm_word, extent_words, grant_words, order_words, file_words}
+use Rattle.m3_journal.specs.Orders.{perm_word, grant_words, order_words, file_words}
 use Rattle.m3_journal.specs.Events.{move_words, event_words}
 use Rattle.m3_journal.specs.SetupLines.{machine_words, setup_words}
 use Rattle.m3_journal.proofs.ClearWords.{is_clear, clear_word, clear_words, within_clear, act_clear, ep_clear, id_clear, u32_clear, length_clear, label_clear, bytes_clear}
+use Rattle.m3_base.specs.Limits.{Within}
 
 perm_clear : (p : Perm) → is_clear (perm_word p) ≡ true
 perm_clear perm.R = refl

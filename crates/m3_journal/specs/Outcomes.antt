@@ -12,21 +12,21 @@ use Rattle.m3_text.specs.Printing.{flight_word}
 use Rattle.m3_journal.specs.Commands.{optional}
 use Rattle.m3_base.specs.RefusalCodes.{refusal_name}
 
-abbrev pub refusal_code : Refusal → List ℕ
-refusal_code Refusal.NoEndpoint = codes "1"
-refusal_code Refusal.NoCredits = codes "2"
-refusal_code Refusal.TooLarge = codes "3"
-refusal_code Refusal.Revoked = codes "4"
-refusal_code Refusal.Full = codes "5"
-refusal_code Refusal.OutOfRange = codes "6"
-refusal_code Refusal.NoPermission = codes "7"
-refusal_code Refusal.NoReplyWanted = codes "8"
-refusal_code Refusal.NoSuchToken = codes "9"
-refusal_code Refusal.BadReplyEndpoint = codes "10"
+abbrev pub refusal_digits : Refusal → List ℕ
+refusal_digits Refusal.NoEndpoint = codes "1"
+refusal_digits Refusal.NoCredits = codes "2"
+refusal_digits Refusal.TooLarge = codes "3"
+refusal_digits Refusal.Revoked = codes "4"
+refusal_digits Refusal.Full = codes "5"
+refusal_digits Refusal.OutOfRange = codes "6"
+refusal_digits Refusal.NoPermission = codes "7"
+refusal_digits Refusal.NoReplyWanted = codes "8"
+refusal_digits Refusal.NoSuchToken = codes "9"
+refusal_digits Refusal.BadReplyEndpoint = codes "10"
 
 -- a refusal's code and name
 abbrev pub refusal_words : Refusal → List (List ℕ)
-refusal_words why = refusal_code why ∷ refusal_name why ∷ []
+refusal_words why = refusal_digits why ∷ refusal_name why ∷ []
 
 abbrev pub answer_words : Answer → List (List ℕ)
 answer_words Answer.Sent = codes "sent" ∷ []

@@ -12,7 +12,9 @@ use Rattle.m3_base.specs.declared.ids.FlightId.{FlightId}
 use Rattle.m3_base.specs.declared.journal.AuditLine.{AuditLine}
 use Rattle.m3_base.specs.Setup.Rules.{SetupValue, IsValid}
 use Rattle.m3_text.specs.ReadBack.{IsFlight, BytesWithin}
-use Rattle.m3_script.specs.InRange.{Within, ActInRange, TileInRange, IdInRange, WordInRange, SetupInRange, EventInRange, MoveInRange}
+use Rattle.m3_script.specs.InRange.{ActInRange, TileInRange, IdInRange, WordInRange, SetupInRange, EventInRange, MoveInRange}
+use Rattle.m3_base.specs.Journal.Entry.{is_idle}
+use Rattle.m3_base.specs.Limits.{Within}
 
 -- ---- outcomes
 
@@ -87,10 +89,6 @@ RestoreInRange said None = ⊤
 RestoreInRange said (Some act) = (may_restore said ≡ true) × ActInRange act
 
 -- ---- entries
-
-abbrev pub is_idle : Said → Bool
-is_idle (Said.Idle why) = true
-is_idle said = false
 
 abbrev pub IsPaired : Event → Option Made → Said → Type 0
 IsPaired (Event.Turn act) made said = is_some made ≡ not (is_idle said)

@@ -113,7 +113,8 @@ fn put_of_grant(
     id: FlightId,
     grant: GrantId,
 ) -> Result<(), AllocError>
-    ensures { OnOk result (string_bytes out.new ≡ string_bytes out.old ++ words_text (name.now ∷ flight_word id ∷ decimal grant ∷ [])) }
+    ensures { OnOk result (string_bytes out.new ≡ string_bytes out.old ++ words_text
+        (name.now ∷ flight_word id ∷ decimal grant ∷ [])) }
 {
     let grant = grant.number();
     put_named(out, name, id)?;
@@ -136,7 +137,8 @@ fn put_order_sent(
     id: FlightId,
     held: bool,
 ) -> Result<(), AllocError>
-    ensures { OnOk result (string_bytes out.new ≡ string_bytes out.old ++ words_text (name.now ∷ decimal grant ∷ flight_word id ∷ way_word held ∷ [])) }
+    ensures { OnOk result (string_bytes out.new ≡ string_bytes out.old ++ words_text
+        (name.now ∷ decimal grant ∷ flight_word id ∷ way_word held ∷ [])) }
 {
     let grant = grant.number();
     write!(out, " {name} {grant} ")?;
@@ -153,7 +155,8 @@ fn put_message(
     label: u64,
     payload: &[u8],
 ) -> Result<(), AllocError>
-    ensures { OnOk result (string_bytes out.new ≡ string_bytes out.old ++ words_text (message_words kind.now token from label payload.now)) }
+    ensures { OnOk result (string_bytes out.new ≡ string_bytes out.old ++ words_text
+        (message_words kind.now token from label payload.now)) }
 {
     let from = from.number();
     write!(out, " {kind} {token} from {from} label {label} ")?;

@@ -85,7 +85,8 @@ fn put_message(
     grant: GrantId,
     message: &Message,
 ) -> Result<(), AllocError>
-    ensures { OnOk result (string_bytes out.new ≡ string_bytes out.old ++ line_text (packet_words (Packet.Message to ep grant message.now))) }
+    ensures { OnOk result (string_bytes out.new ≡ string_bytes out.old ++ line_text
+        (packet_words (Packet.Message to ep grant message.now))) }
 {
     put_name(out, message_word(&message.header), message.id())?;
     put_receiver(out, to, ep, grant)?;
@@ -93,7 +94,8 @@ fn put_message(
 }
 
 fn put_credit(out: &mut String, id: FlightId, to: ActId, grant: GrantId) -> Result<(), AllocError>
-    ensures { OnOk result (string_bytes out.new ≡ string_bytes out.old ++ line_text (packet_words (Packet.Credit id to grant))) }
+    ensures { OnOk result (string_bytes out.new ≡ string_bytes out.old ++ line_text
+        (packet_words (Packet.Credit id to grant))) }
 {
     let to = to.number();
     let grant = grant.number();
@@ -170,7 +172,8 @@ fn put_install(
     ep: EpId,
     fresh: &Fresh,
 ) -> Result<(), AllocError>
-    ensures { OnOk result (string_bytes out.new ≡ string_bytes out.old ++ line_text (packet_words (Packet.Install id to ep fresh.now))) }
+    ensures { OnOk result (string_bytes out.new ≡ string_bytes out.old ++ line_text
+        (packet_words (Packet.Install id to ep fresh.now))) }
 {
     let to = to.number();
     let ep = ep.number();

@@ -100,7 +100,8 @@ fn put_writer(
     ring: u8,
     bytes: &[u8],
 ) -> Result<(), AllocError>
-    ensures { OnOk result (string_bytes out.new ≡ string_bytes out.old ++ line_text (writer_words act mem send reply chunk ring bytes.now)) }
+    ensures { OnOk result (string_bytes out.new ≡ string_bytes out.old ++ line_text
+        (writer_words act mem send reply chunk ring bytes.now)) }
 {
     put_writer_ends(out, act, mem, send, reply)?;
     put_pipe(out, chunk, ring)?;
@@ -116,7 +117,8 @@ fn put_reader(
     ring: u8,
     fuel: u16,
 ) -> Result<(), AllocError>
-    ensures { OnOk result (string_bytes out.new ≡ string_bytes out.old ++ line_text (reader_words act mem recv chunk ring fuel)) }
+    ensures { OnOk result (string_bytes out.new ≡ string_bytes out.old ++ line_text
+        (reader_words act mem recv chunk ring fuel)) }
 {
     put_reader_ends(out, act, mem, recv)?;
     put_pipe(out, chunk, ring)?;

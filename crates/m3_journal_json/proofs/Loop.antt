@@ -1,13 +1,12 @@
 -- Taking one string after the other, as a loop does.
-use Rattle.std.proofs.Common.{◌≡◌, ℕ, ◌+◌, ◌<◌, ◌≤◌, List, [], ◌∷◌, length, drop, get_or, Result, Ok, Err, refl, sym, ap, ◌∙◌, arith, drop-cons, add-one}
-use Rattle.std.proofs.lemmas.List.{drop_all, length-map}
+use Rattle.std.proofs.Common.{◌≡◌, ℕ, ◌+◌, ◌<◌, ◌≤◌, List, [], ◌∷◌, length, drop, get_or, Result, Ok, refl, sym, ◌∙◌, arith, drop-cons, add-one}
+use Rattle.std.proofs.lemmas.List.{drop_all}
 use Rattle.m3_text.specs.declared.refusal.LineRefusal.{LineRefusal}
 use Rattle.m3_text.specs.declared.refusal.LineRefusal.TheVariants as refusals
 use Rattle.m3_text.specs.Refusable.{Fails}
 use Rattle.m3_script.specs.ScriptText.{Refused}
-use Rattle.m3_script.specs.ParserView.{refusal}
-use Rattle.m3_journal.specs.Reading.Journals.{DraftValue, draft_after_all, at_line, draft_after_string, after_mark, then_next, draft_with_mark}
-use Rattle.m3_journal.specs.Reading.Refusals.{Refuses}
+use Rattle.m3_script.specs.ParserView.{refusal, Refuses}
+use Rattle.m3_journal.specs.Reading.Journals.{DraftValue, draft_after_all, draft_after_string}
 
 -- the texts from place i on
 pub rest_is : (ts : List (List ℕ)) (i : ℕ) → i < length ts → drop i ts ≡ get_or ts i [] ∷ drop (i + 1) ts

@@ -23,7 +23,6 @@ use Rattle.m3_base.specs.declared.event.Entry.{Entry}
 use Rattle.m3_base.specs.declared.journal.AuditLine.{AuditLine}
 use Rattle.m3_base.specs.Setup.Rules.{SetupValue}
 use Rattle.m3_text.specs.Lines.{is_plain}
-use Rattle.m3_base.proofs.Bools.{both_true as split}
 use Rattle.m3_journal.specs.Spelled.{IsSpelled, EntryInRange, AuditInRange}
 use Rattle.m3_journal.specs.JournalText.{setup_lines, entry_line, audit_line}
 use Rattle.m3_journal.proofs.JournalsAgain.{map_plain, setup_lines_plain}
@@ -31,6 +30,7 @@ use Rattle.m3_journal.proofs.LinesAgain.{entry_plain, audit_plain}
 use Rattle.m3_journal_json.specs.Objects.{object_of, journal_object, json_text, journal_of_json}
 use Rattle.m3_journal_json.proofs.Again.{bytes_again}
 use Rattle.m3_journal_json.proofs.Values.{value_found}
+use Rattle.std.proofs.lemmas.Bool.{and_parts as split}
 
 -- ---- the object is read from its text
 

@@ -6,8 +6,9 @@ use Rattle.m3_script.specs.declared.script.ScriptRefusal.{ScriptRefusal}
 use Rattle.m3_script.specs.declared.script.ScriptRefusal.TheVariants as refusals
 use Rattle.m3_journal.specs.declared.reading.line.Line.TheVariants as line
 use Rattle.m3_journal.specs.Reading.Journals.{DraftValue, empty_draft, then_next, after_mark, after_strings, setup_strings, entry_strings, audit_strings, journal_of_draft, journal_from}
-use Rattle.m3_journal.specs.Reading.Refusals.{Refuses, Parses}
+use Rattle.m3_journal.specs.Reading.Refusals.{Parses}
 use Rattle.m3_journal_json.specs.Reads.{journal_after_setup, journal_after_entries}
+use Rattle.m3_script.specs.ParserView.{Refuses}
 
 module _ (setup entries audit : List (List ℕ)) where
   pub after_setup : (r : Result (Journal × Audit) ScriptRefusal) (d : DraftValue) (x : DraftValue × ℕ) → d ≡ empty_draft

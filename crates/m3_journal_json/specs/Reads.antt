@@ -1,16 +1,14 @@
 -- What the functions of the reader return, compared with what is read.
-use Rattle.std.specs.Prelude.{◌≡◌, ℕ, List, [], map, Bool, true, Option, Some, None, unwrap_or, Result, Ok, Err, ⊤, String, string_bytes}
-use Rattle.std.specs.declared.alloc.Global.{Global}
+use Rattle.std.specs.Prelude.{◌≡◌, ℕ, List, [], map, true, Option, Some, None, Result, Ok, Err, ⊤}
 use Rattle.serde_json.specs.Data.{Data}
-use Rattle.serde_json.specs.Find.{as_str}
 use Rattle.serde_json.specs.View.{view}
 use Rattle.serde_json.specs.declared.value.Value.{Value}
 use Rattle.m3_text.specs.declared.refusal.Why.TheVariants as whys
 use Rattle.m3_script.specs.declared.script.ScriptRefusal.{ScriptRefusal}
 use Rattle.m3_script.specs.ScriptText.{Refused}
 use Rattle.m3_journal.specs.Reading.Journals.{DraftValue, JournalValue, then_next, entry_strings, audit_strings, journal_of_reading}
-use Rattle.m3_journal.specs.Reading.Refusals.{Refuses}
 use Rattle.m3_journal_json.specs.Objects.{text_of}
+use Rattle.m3_script.specs.ParserView.{Refuses}
 
 -- the texts of values
 abbrev pub value_texts : List Value → List (List ℕ)

@@ -43,7 +43,8 @@ fn is_journal(value: &Value) -> bool
 }
 
 fn lists_of(value: &Value) -> Option<Parts<'_>>
-    ensures { option_map (λ p. (items_view p.setup.now.items, items_view p.entries.now.items, items_view p.audit.now.items)) result ≡ lists_of (view value.now) }
+    ensures { option_map (λ p. (items_view p.setup.now.items, items_view p.entries.now.items, items_view p.audit.now.items))
+        result ≡ lists_of (view value.now) }
 {
     let setup = list_at(value, "setup")?;
     let entries = list_at(value, "entries")?;
@@ -57,7 +58,8 @@ fn lists_of(value: &Value) -> Option<Parts<'_>>
 
 /// The setup, the entries and the audit, where the value is an object with just the four keys of a journal.
 pub fn parts_of(value: &Value) -> Option<Parts<'_>>
-    ensures { option_map (λ p. (items_view p.setup.now.items, items_view p.entries.now.items, items_view p.audit.now.items)) result ≡ parts_of (view value.now) }
+    ensures { option_map (λ p. (items_view p.setup.now.items, items_view p.entries.now.items, items_view p.audit.now.items))
+        result ≡ parts_of (view value.now) }
 {
     if is_journal(value) {
         lists_of(value)

@@ -123,7 +123,9 @@ fn take_list(
     values: &[Value],
     line: u32,
 ) -> Result<u32, ScriptRefusal>
-    ensures { Takes result (draft_value draft.new) (then_next (after_mark mark.now (draft_value draft.old, line)) (after_strings (value_texts values.now))) }
+    ensures { Takes result (draft_value draft.new)
+        (then_next (after_mark mark.now (draft_value draft.old, line))
+        (after_strings (value_texts values.now))) }
 {
     match draft.advance(mark) {
         Ok(()) => take_strings(alloc, draft, values, line),

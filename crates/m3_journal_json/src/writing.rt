@@ -17,7 +17,8 @@ use std::alloc::{AllocError, Global};
 /// The JSON of a journal with its audit, in one line with no space.
 pub fn to_json(alloc: Global, journal: &Journal, audit: &Audit) -> Result<Vec<u8>, AllocError>
     ensures text { IfOk result (λ v. v.items ≡ json_text journal.now.setup journal.now.entries.items audit.now.lines.items) }
-    ensures reads { IfOk result (λ v. json_of v.items ≡ Some (journal_object journal.now.setup journal.now.entries.items audit.now.lines.items)) }
+    ensures reads { IfOk result (λ v. json_of v.items ≡ Some
+        (journal_object journal.now.setup journal.now.entries.items audit.now.lines.items)) }
     ensures again { IfOk result (λ v. ReadsBack journal.now.setup journal.now.entries.items audit.now.lines.items v.items) }
 {
     let setup = setup_texts(alloc, &journal.setup)?;
@@ -69,8 +70,10 @@ fn write(
     entries: Vec<String>,
     audit: Vec<String>,
 ) -> Result<String, AllocError>
-    ensures text { IfOk result (λ s. string_bytes s ≡ compact_text (object_of (strings setup.items) (strings entries.items) (strings audit.items))) }
-    ensures again { IfOk result (λ s. read (string_bytes s) ≡ Some (object_of (strings setup.items) (strings entries.items) (strings audit.items))) }
+    ensures text { IfOk result (λ s. string_bytes s ≡ compact_text
+        (object_of (strings setup.items) (strings entries.items) (strings audit.items))) }
+    ensures again { IfOk result (λ s. read (string_bytes s) ≡ Some
+        (object_of (strings setup.items) (strings entries.items) (strings audit.items))) }
 {
     let audit = array_of(alloc, audit)?;
     let entries = array_of(alloc, entries)?;

@@ -33,6 +33,7 @@ impl Model for Wires {
 }
 
 /// The place of a link among all.
+#[inline(always)]
 fn place(from: TileId, to: TileId) -> usize
     ensures value { result ≡ place from to }
     ensures range { result < 256 }
@@ -128,6 +129,7 @@ impl Wires {
     }
 
     /// Makes room for two more parcels on each link from this tile, as many as one event sends.
+    #[inline(always)]
     pub fn reserve_from(&mut self, from: TileId) -> Result<(), AllocError>
         ensures lists { self.new.lists ≡ self.old.lists }
         ensures room { OnOk result (HasRoom self.new.spare 2 from) }
@@ -142,6 +144,7 @@ impl Wires {
     }
 
     /// The parcel joins the back of this link, which has a spare place. It takes no memory.
+    #[inline(always)]
     pub fn push(&mut self, from: TileId, to: TileId, parcel: Parcel)
         requires room { 0 < spare_at self.old.spare (place from to) }
         ensures lists { self.new.lists ≡ with_pushed self.old.lists (place from to) parcel }
@@ -156,6 +159,7 @@ impl Wires {
     }
 
     /// The front of this link leaves it, and its place is spare. None exactly where the link is empty.
+    #[inline(always)]
     pub fn take(&mut self, from: TileId, to: TileId) -> Option<Parcel>
         ensures answer { result ≡ first (list_at self.old.lists (place from to)) }
         ensures lists { self.new.lists ≡ with_popped self.old.lists (place from to) }
@@ -168,6 +172,7 @@ impl Wires {
     }
 
     /// The parcel is the front of this link again, which has a spare place. It takes no memory.
+    #[inline(always)]
     pub fn put_back(&mut self, from: TileId, to: TileId, parcel: Parcel)
         requires room { 0 < spare_at self.old.spare (place from to) }
         ensures lists { self.new.lists ≡ put_back self.old.lists (place from to) parcel }
@@ -179,6 +184,7 @@ impl Wires {
     }
 
     /// How many parcels are on this link.
+    #[inline(always)]
     pub fn len(&self, from: TileId, to: TileId) -> usize
         ensures { result ≡ length (list_at self.now.lists (place from to)) }
     {
@@ -187,6 +193,7 @@ impl Wires {
     }
 
     /// The parcel with so many others before it on this link. None exactly where the link has no more than these.
+    #[inline(always)]
     pub fn get(&self, from: TileId, to: TileId, at: usize) -> Option<&Parcel>
         ensures { option_copied result ≡ parcel_at (list_at self.now.lists (place from to)) at }
     {
@@ -195,6 +202,7 @@ impl Wires {
     }
 
     /// Whether this link has no parcel.
+    #[inline(always)]
     pub fn is_empty(&self, from: TileId, to: TileId) -> bool
         ensures { result ≡ is_nil (list_at self.now.lists (place from to)) }
     {

@@ -6,3 +6,4 @@ pub mod HexDigits
 pub mod LineForm
 pub mod JoinedCauses
 pub mod DecimalValue
+pub mod Figures

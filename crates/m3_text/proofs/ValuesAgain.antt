@@ -6,7 +6,7 @@ use Rattle.std.specs.Str.{all_ascii_digits, bytes_eq}
 use Rattle.std.specs.Char.{is_ascii_digit}
 use Rattle.std.proofs.Math.Seq.{take-append_seam, drop-append-add}
 use Rattle.std.proofs.lemmas.Fmt.{digits_decimal, digits_value-decimal, decimal_nonempty, first_decimal, decimal_digit}
-use Rattle.std.proofs.lemmas.Bool.{cases_eq}
+use Rattle.std.proofs.lemmas.Bool.{cases_eq, and_parts as split}
 use Rattle.std.proofs.lemmas.Grind.{common_steps}
 use Rattle.hex.specs.Hex.{IsBytes, encode_lower, encode_with, lower_digits}
 use Rattle.hex.proofs.HexLemmas.{decode_of-encode_lower, length-encode_with}
@@ -15,10 +15,10 @@ use Rattle.m3_text.specs.declared.hexes.HexCase.{HexCase}
 use Rattle.m3_text.specs.Number.{read_on, is_decimal, number}
 use Rattle.m3_text.specs.Hex.{hex, hex_of, hex_text, has_capital}
 use Rattle.m3_text.specs.Flights.{issuer_of, name_at, flight_of}
-use Rattle.m3_text.specs.Printing.{issuer_word, flight_word}
+use Rattle.m3_text.specs.Printing.{flight_word}
 use Rattle.m3_text.specs.ReadBack.{IsFlight, BytesWithin}
-use Rattle.m3_base.proofs.Bools.{both_true as split}
 use Rattle.m3_text.proofs.Visible.{own, flight_text}
+use Rattle.m3_base.specs.Display.{issuer_text}
 
 -- ---- numbers
 
@@ -115,7 +115,7 @@ point_after w v h =
     let within : ltb (length w) (length (w ++ 46 ∷ v)) ≡ true = (let len = length-append w (46 ∷ v) in grind arith) in
     rw (first_point w v h, within) refl
 
-pub issuer_again : (i : ℕ) → i ≤ 64 → (issuer_of (issuer_word i) ≡ Ok i) × (list_any is_point (issuer_word i) ≡ false)
+pub issuer_again : (i : ℕ) → i ≤ 64 → (issuer_of (issuer_text i) ≡ Ok i) × (list_any is_point (issuer_text i) ≡ false)
 unfolding issuer_of
 issuer_again i le = elim (cases_eq i 64) [
   | inl is ↦ rw is (refl, refl)
@@ -133,7 +133,7 @@ pub flight_again : (id : FlightId) → IsFlight id → flight_of (flight_word id
 unfolding name_at
 flight_again id is =
     let i = issuer_again id.issuer is.issuer in
-    let w = issuer_word id.issuer in
+    let w = issuer_text id.issuer in
     rw (
       flight_text id,
       point_after w (decimal id.number) i.1,

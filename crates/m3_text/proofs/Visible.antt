@@ -15,9 +15,10 @@ use Rattle.m3_base.specs.FileName.{is_visible}
 use Rattle.m3_text.specs.Hex.{hex_text}
 use Rattle.m3_text.specs.Lines.{is_word}
 use Rattle.m3_text.specs.Number.{read_on}
-use Rattle.m3_text.specs.Printing.{issuer_word, flight_word}
+use Rattle.m3_text.specs.Printing.{flight_word}
 use Rattle.m3_text.specs.ReadBack.{IsFlight}
-use Rattle.m3_base.proofs.Bools.{both_true as split}
+use Rattle.std.proofs.lemmas.Bool.{and_parts as split}
+use Rattle.m3_base.specs.Display.{issuer_text}
 
 -- the digits of a number are what `read_on` reads
 pub own : IsNumeralModel (λ ds. all_ascii_digits ds ≡ true) (read_on 0)
@@ -53,7 +54,7 @@ hex_visible (b ∷ bytes) are =
     rw (some, pass_visible (encode_lower (b ∷ bytes)) ok.1) refl
 
 -- an issuer is printed as a word, whatever it is
-pub issuer_visible : (i : ℕ) → i ≤ 64 → is_word (issuer_word i) ≡ true
+pub issuer_visible : (i : ℕ) → i ≤ 64 → is_word (issuer_text i) ≡ true
 issuer_visible i le = go (eqb i 64) (number_visible i (omega arith))
   where
     go : (b : Bool) → is_word (decimal i) ≡ true → is_word (if b then codes "k" else decimal i) ≡ true
@@ -68,9 +69,9 @@ joined_word (c ∷ v) w is h =
     let some : ltb 0 (length ((c ∷ v) ++ w)) ≡ true = grind arith in
     rw (some, list_all-append is_visible v w, t.0, t.1, h) refl
 
-pub flight_text : (id : FlightId) → flight_word id ≡ issuer_word id.issuer ++ 46 ∷ decimal id.number
-flight_text id = append_assoc (issuer_word id.issuer) (46 ∷ []) (decimal id.number)
+pub flight_text : (id : FlightId) → flight_word id ≡ issuer_text id.issuer ++ 46 ∷ decimal id.number
+flight_text id = append_assoc (issuer_text id.issuer) (46 ∷ []) (decimal id.number)
 
 pub flight_visible : (id : FlightId) → IsFlight id → is_word (flight_word id) ≡ true
 flight_visible id is =
-    rw (flight_text id) (joined_word (issuer_word id.issuer) (46 ∷ decimal id.number) (issuer_visible id.issuer is.issuer) (decimal_visible id.number (omega (arith, is.limit))))
+    rw (flight_text id) (joined_word (issuer_text id.issuer) (46 ∷ decimal id.number) (issuer_visible id.issuer is.issuer) (decimal_visible id.number (omega (arith, is.limit))))

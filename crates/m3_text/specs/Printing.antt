@@ -2,7 +2,7 @@
 use Rattle.std.specs.Prelude.{ℕ, List, [], ◌∷◌, ◌++◌, codes, decimal, ◌==◌, if◌then◌else◌}
 use Rattle.std.specs.List.{flat_map}
 use Rattle.m3_base.specs.declared.ids.FlightId.{FlightId}
-use Rattle.m3_base.specs.Ideal.Flights.{kernel}
+use Rattle.m3_base.specs.Display.{issuer_text}
 
 -- words, each behind a space
 abbrev pub words_text : List (List ℕ) → List ℕ
@@ -18,9 +18,6 @@ line_text (w ∷ ws) = w ++ words_text ws
 abbrev pub text_of_lines : List (List ℕ) → List ℕ
 text_of_lines ls = flat_map (λ l. l ++ 10 ∷ []) ls
 
-abbrev pub issuer_word : ℕ → List ℕ
-issuer_word i = if i == kernel then codes "k" else decimal i
-
 -- a flight's name
 abbrev pub flight_word : FlightId → List ℕ
-flight_word id = issuer_word id.issuer ++ codes "." ++ decimal id.number
+flight_word id = issuer_text id.issuer ++ codes "." ++ decimal id.number

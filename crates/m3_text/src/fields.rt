@@ -13,6 +13,7 @@ use m3_base::payload::Payload;
 use std::alloc::Global;
 
 /// An activity, 0 to 63.
+#[inline(always)]
 pub fn read_act(word: &[u8]) -> Result<ActId, LineRefusal>
     ensures { Gives (λ a. a) result (number 0 63 word.now) }
 {
@@ -20,6 +21,7 @@ pub fn read_act(word: &[u8]) -> Result<ActId, LineRefusal>
 }
 
 /// A tile, 0 to 15.
+#[inline(always)]
 pub fn read_tile(word: &[u8]) -> Result<TileId, LineRefusal>
     ensures { Gives (λ t. t) result (number 0 15 word.now) }
 {
@@ -27,6 +29,7 @@ pub fn read_tile(word: &[u8]) -> Result<TileId, LineRefusal>
 }
 
 /// An endpoint, 0 to 15.
+#[inline(always)]
 pub fn read_ep(word: &[u8]) -> Result<EpId, LineRefusal>
     ensures { Gives (λ e. e) result (number 0 15 word.now) }
 {
@@ -34,6 +37,7 @@ pub fn read_ep(word: &[u8]) -> Result<EpId, LineRefusal>
 }
 
 /// A grant, 1 to 4,096.
+#[inline(always)]
 pub fn read_grant(word: &[u8]) -> Result<GrantId, LineRefusal>
     ensures { Gives (λ g. g) result (number 1 4096 word.now) }
 {
@@ -41,6 +45,7 @@ pub fn read_grant(word: &[u8]) -> Result<GrantId, LineRefusal>
 }
 
 /// Bytes, at most `max` of them.
+#[inline(always)]
 pub fn read_payload(
     alloc: Global,
     case: HexCase,

@@ -19,6 +19,7 @@ pub enum HexCase {
 
 /// At most `max` bytes as pairs of hexadecimal digits in this case, or `-` for no bytes.
 #[tactic(auto, unfolding(crate::specs::Hex::hex_of))]
+#[inline(always)]
 pub fn hex_of(alloc: Global, case: HexCase, word: &[u8], max: usize) -> Result<Vec<u8>, LineRefusal>
     ensures { Gives (λ v. v.items) result (hex_of case max word.now) }
 {

@@ -10,6 +10,7 @@ use std::alloc::AllocError;
 
 /// The first line of a text that is not empty, and what follows it. A line ends with a newline, and a carriage return
 /// before that is dropped; the last line may lack its newline.
+#[inline(always)]
 pub fn cut_line(text: &[u8]) -> (&[u8], &[u8])
     requires { 0 < length text.now }
     ensures line { lines text.now ≡ result.0.now ∷ lines result.1.now }
@@ -21,6 +22,7 @@ pub fn cut_line(text: &[u8]) -> (&[u8], &[u8])
     }
 }
 
+#[inline(always)]
 fn without_return(line: &[u8]) -> &[u8]
     ensures { result.now ≡ strip_carriage_return line.now }
 {
@@ -31,6 +33,7 @@ fn without_return(line: &[u8]) -> &[u8]
 }
 
 /// Whether each byte is a space or a visible ASCII character.
+#[inline(always)]
 pub fn is_plain(line: &[u8]) -> bool
     ensures { result ≡ list_all is_plain line.now }
 {
@@ -38,8 +41,10 @@ pub fn is_plain(line: &[u8]) -> bool
 }
 
 /// The bytes up to the first space, and those after it.
+#[inline(always)]
 fn cut_word(line: &[u8]) -> (&[u8], &[u8])
-    ensures word { words line.now ≡ (if length result.0.now == 0 then words result.1.now else (result.0.now ∷ words result.1.now)) }
+    ensures word { words line.now ≡ (if length result.0.now == 0 then words result.1.now else
+        (result.0.now ∷ words result.1.now)) }
     ensures shorter { 0 < length line.now → length result.1.now < length line.now }
 {
     match memchr(b' ', line) {
@@ -49,6 +54,7 @@ fn cut_word(line: &[u8]) -> (&[u8], &[u8])
 }
 
 /// Puts the words of a line, at most the first `most`, in place of those that were there.
+#[inline(always)]
 pub fn cut_words<'a>(
     line: &'a [u8],
     most: usize,

@@ -10,6 +10,7 @@ use crate::refusal::{LineRefusal, Why};
 
 /// A decimal number from `low` to `high`, with no needless zero in front.
 #[tactic(auto, unfolding(crate::specs::Number::number))]
+#[inline(always)]
 pub fn number(word: &[u8], low: u64, high: u64) -> Result<u64, LineRefusal>
     ensures value { Gives (λ n. n) result (number low high word.now) }
     ensures range { IfOk result (λ n. (low ≤ n) × (n ≤ high)) }
@@ -21,6 +22,7 @@ pub fn number(word: &[u8], low: u64, high: u64) -> Result<u64, LineRefusal>
 }
 
 /// What a decimal number stands for, where it fits.
+#[inline(always)]
 fn value(word: &[u8]) -> Option<u64>
     ensures { SomeIff result (IsTrue (is_decimal word.now) × (read_on 0 word.now < 2 ^ 64)) (read_on 0 word.now) }
 {
@@ -30,6 +32,7 @@ fn value(word: &[u8]) -> Option<u64>
     }
 }
 
+#[inline(always)]
 fn digits_value(word: &[u8]) -> Option<u64>
     ensures { SomeIff result (IsTrue (all_ascii_digits word.now) × (read_on 0 word.now < 2 ^ 64)) (read_on 0 word.now) }
 {

@@ -8,6 +8,7 @@ ghost use Rattle.m3_text.specs.LineForm.{word, stands_for, matches, starts_with,
 use crate::refusal::{LineRefusal, Why};
 
 /// The word at this place.
+#[inline(always)]
 pub fn word<'a>(words: &[&'a [u8]], index: usize) -> &'a [u8]
     requires { index < length words.now }
     ensures { result.now ≡ word index (texts words.now) }
@@ -16,6 +17,7 @@ pub fn word<'a>(words: &[&'a [u8]], index: usize) -> &'a [u8]
 }
 
 /// The words but for the first `count`.
+#[inline(always)]
 pub fn after<'a, 'b>(words: &'a [&'b [u8]], count: usize) -> &'a [&'b [u8]]
     requires { count ≤ length words.now }
     ensures { texts result.now ≡ drop count (texts words.now) }
@@ -24,6 +26,7 @@ pub fn after<'a, 'b>(words: &'a [&'b [u8]], count: usize) -> &'a [&'b [u8]]
 }
 
 /// The first word, which is empty where there is none, and the words after it.
+#[inline(always)]
 pub fn cut_first<'a, 'b>(words: &'a [&'b [u8]]) -> (&'b [u8], &'a [&'b [u8]])
     ensures first { result.0.now ≡ word 0 (texts words.now) }
     ensures rest { texts result.1.now ≡ drop 1 (texts words.now) }
@@ -36,6 +39,7 @@ pub fn cut_first<'a, 'b>(words: &'a [&'b [u8]]) -> (&'b [u8], &'a [&'b [u8]])
 
 /// `Form` exactly where there aren't as many words.
 #[tactic(auto, unfolding(crate::specs::LineForm::count_test))]
+#[inline(always)]
 pub fn count_test(words: &[&[u8]], count: usize) -> Result<(), LineRefusal>
     ensures test { Gives (λ u. u) result (count_test count (texts words.now)) }
     ensures count { IfOk result (λ u. length words.now ≡ count) }
@@ -49,6 +53,7 @@ pub fn count_test(words: &[&[u8]], count: usize) -> Result<(), LineRefusal>
 
 /// `Form` exactly where the words aren't those of a form, in which an empty word stands for any one.
 #[tactic(auto, unfolding(crate::specs::LineForm::form_test))]
+#[inline(always)]
 pub fn form_test(form: &[&[u8]], words: &[&[u8]]) -> Result<(), LineRefusal>
     ensures test { Gives (λ u. u) result (form_test (texts form.now) (texts words.now)) }
     ensures count { IfOk result (λ u. length words.now ≡ length form.now) }
@@ -60,6 +65,7 @@ pub fn form_test(form: &[&[u8]], words: &[&[u8]]) -> Result<(), LineRefusal>
     }
 }
 
+#[inline(always)]
 fn stands_for(form: &[u8], word: &[u8]) -> bool
     ensures { result ≡ stands_for form.now word.now }
 {
@@ -68,6 +74,7 @@ fn stands_for(form: &[u8], word: &[u8]) -> bool
 
 /// Whether the words are those of a form, in which an empty word stands for any one.
 #[tactic(auto, using(crate::proofs::LineForm::fits_begins, crate::proofs::LineForm::fits_other))]
+#[inline(always)]
 pub fn fits(form: &[&[u8]], words: &[&[u8]]) -> bool
     ensures fits { result ≡ matches (texts form.now) (texts words.now) }
     ensures len { IsTrue result → length words.now ≡ length form.now }
@@ -76,6 +83,7 @@ pub fn fits(form: &[&[u8]], words: &[&[u8]]) -> bool
 }
 
 /// Whether the first words are those of a form.
+#[inline(always)]
 pub fn begins(form: &[&[u8]], words: &[&[u8]]) -> bool
     ensures begins { result ≡ starts_with (texts form.now) (texts words.now) }
     ensures len { IsTrue result → length form.now ≤ length words.now }

@@ -5,12 +5,14 @@ ghost use Rattle.m3_text.specs.CauseOrder.{rank, earlier, both_causes};
 
 use crate::refusal::{LineRefusal, Why};
 
+#[inline(always)]
 fn rank(why: Why) -> u8
     ensures { result ≡ rank why }
 {
     why as u8
 }
 
+#[inline(always)]
 fn earlier(a: Why, b: Why) -> Why
     ensures { result ≡ earlier a b }
 {
@@ -18,6 +20,7 @@ fn earlier(a: Why, b: Why) -> Why
 }
 
 /// Both values, or the first cause of the two.
+#[inline(always)]
 pub fn both<A: Drop, B: Drop>(
     a: Result<A, LineRefusal>,
     b: Result<B, LineRefusal>,

@@ -1,18 +1,17 @@
 -- The readers of headers and packets are exact.
 use Rattle.std.proofs.Common.{◌≡◌, ℕ, ◌^◌, ◌<◌, ◌≤◌, Bool, true, false, cond, eqb, leb, List, [], ◌∷◌, ◌++◌, length, Result, refl, sym, ap, ◌∙◌, arith, lit<, append_assoc}
-use Rattle.std.proofs.lemmas.Bool.{leb-true, le-leb}
+use Rattle.std.proofs.lemmas.Bool.{leb-true, le-leb, and_parts as both}
 use Rattle.byteorder.specs.Endian.{little_bytes}
 use Rattle.m3_base.specs.declared.ids.FlightId.{FlightId}
 use Rattle.m3_base.specs.declared.message.Header.{Header}
-use Rattle.m3_base.specs.Limits.{is_within}
+use Rattle.m3_base.specs.Limits.{is_within, Within}
 use Rattle.m3_wire.specs.ByteReader.{Fault, byte, pair, mapped}
-use Rattle.m3_wire.specs.Headers.{Within, IsAct, IsGrant, IsCount, IsLabel, FitsHeader, header_bytes, is_reply_ep, least_reply, most_reply}
+use Rattle.m3_wire.specs.Headers.{IsAct, IsGrant, IsCount, IsLabel, FitsHeader, header_bytes, is_reply_ep, least_reply, most_reply}
 use Rattle.m3_wire.specs.Decoders.{small, act, ep, grant, count, label, act_id, kernel_id, flight_of, kernels, HeaderFields, header_of, header, second, length_prefixed}
 use Rattle.m3_wire.specs.Packets.{IsOfAct, IsOfKernel, IsEp, id_bytes, counted_bytes}
 use Rattle.m3_wire.proofs.ExactDecoder.{Exact, pair_sound, mapped_sound}
 use Rattle.m3_wire.proofs.BytePrimitives.{bytes_exact, byte_exact, itself}
 use Rattle.m3_wire.proofs.NumberDecoderExact.{number_exact}
-use Rattle.m3_base.proofs.Bools.{both_true as both}
 
 -- one byte as it stands
 abbrev pub cell : ℕ → List ℕ

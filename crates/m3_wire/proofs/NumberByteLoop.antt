@@ -2,14 +2,13 @@
 use Rattle.std.proofs.Common.{◌≡◌, ℕ, zero, suc, ◌+◌, ◌-◌, ◌*◌, ◌^◌, ◌<◌, ◌≤◌, true, false, cond, List, ◌∷◌, ◌++◌, length, Ok, Err, refl, sym, ap, ◌∙◌, arith, inl, inr, ◌⊎◌, pow-suc, get_or, drop, add-one}
 use Rattle.std.proofs.Common.{drop-cons, length-drop, ◌||◌, leb}
 use Rattle.std.proofs.lemmas.List.{drop_all}
-use Rattle.std.proofs.lemmas.Bool.{leb-true}
+use Rattle.std.proofs.lemmas.Bool.{leb-true, and_parts as both}
 use Rattle.std.proofs.Math.Nat.{pow-le-pow_right, mul-le-mul_left}
 use Rattle.m3_wire.specs.ByteReader.{Short, Bad, is_digit_within, number_from, number}
 use Rattle.byteorder.specs.Endian.{little_number, little_bytes}
 use Rattle.m3_wire.proofs.ExactDecoder.{IsBytes}
 use Rattle.m3_wire.proofs.LittleEndian.{bytes_are, le_is}
 use Rattle.m3_wire.proofs.NumberDecoderExact.{number_exact, either}
-use Rattle.m3_base.proofs.Bools.{both_true as both}
 
 pub record Walks (width low high : ℕ) (bytes : List ℕ) (value scale i : ℕ) : Type 0 where
   pub walk : number_from low high (width - i) value scale (drop i bytes) ≡ number width low high bytes

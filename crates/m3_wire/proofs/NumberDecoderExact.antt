@@ -1,13 +1,12 @@
 -- Numbers are read exactly.
 use Rattle.std.proofs.Common.{◌≡◌, ℕ, zero, suc, ◌+◌, ◌*◌, ◌/◌, ◌%◌, ◌^◌, ◌<◌, ◌≤◌, Bool, true, false, ◌&&◌, ◌||◌, leb, List, [], ◌∷◌, ◌++◌, length, Result, Ok, Err, refl, sym, ap, ◌∙◌, arith, inl, inr, ◌⊎◌, pow-suc}
-use Rattle.std.proofs.lemmas.Bool.{cases_lt, leb-true, le-leb}
+use Rattle.std.proofs.lemmas.Bool.{cases_lt, leb-true, le-leb, and_parts}
 use Rattle.m3_wire.specs.ByteReader.{Fault, Short, Bad, is_digit_within, number_from, number}
 use Rattle.byteorder.specs.Endian.{little_bytes}
-use Rattle.m3_wire.specs.Headers.{Within}
 use Rattle.m3_wire.proofs.Results.{ok, ok_same, left_same}
 use Rattle.m3_wire.proofs.ExactDecoder.{IsBytes, Exact}
 use Rattle.m3_wire.proofs.LittleEndian.{le, le_is}
-use Rattle.m3_base.proofs.Bools.{both_true}
+use Rattle.m3_base.specs.Limits.{Within}
 
 pub either : (a b : Bool) → (a || b) ≡ true → (a ≡ true) ⊎ (b ≡ true)
 either true b e = inl refl
@@ -69,7 +68,7 @@ module _ (low high : ℕ) where
     where
       passed : is_digit_within low high (n + m * c) (256 * m) ≡ true → (n + m * c ≤ high) × ((low ≤ n + m * c) ⊎ (n + m * c + 256 * m ≤ high))
       passed test =
-          let e = both_true (leb (n + m * c) high) (leb low (n + m * c) || leb (n + m * c + 256 * m) high) test in (
+          let e = and_parts (leb (n + m * c) high) (leb low (n + m * c) || leb (n + m * c + 256 * m) high) test in (
             leb-true _ _ e.0,
             elim (either (leb low (n + m * c)) (leb (n + m * c + 256 * m) high) e.1) [
               | inl h ↦ inl (leb-true _ _ h)

@@ -8,11 +8,11 @@ use Rattle.m3_base.specs.declared.message.Header.{Header}
 use Rattle.m3_base.specs.declared.packet.Fresh.{Fresh}
 use Rattle.m3_base.specs.declared.packet.Packet.{Packet}
 use Rattle.m3_base.specs.declared.packet.Perm.{Perm}
-use Rattle.m3_wire.specs.declared.codes.Kind.{Kind}
-use Rattle.m3_wire.specs.declared.codes.AnswerForm.{AnswerForm}
-use Rattle.m3_wire.specs.declared.codes.RecordForm.{RecordForm}
+use Rattle.m3_wire.specs.declared.codes.PacketTag.{PacketTag}
+use Rattle.m3_wire.specs.declared.codes.AnswerTag.{AnswerTag}
+use Rattle.m3_wire.specs.declared.codes.RecordTag.{RecordTag}
 use Rattle.m3_wire.specs.ByteReader.{Fault, number, mapped}
-use Rattle.m3_wire.specs.Headers.{Within, IsAct, IsGrant, IsLabel, FitsHeader}
+use Rattle.m3_wire.specs.Headers.{IsAct, IsGrant, IsLabel, FitsHeader}
 use Rattle.m3_wire.specs.Packets
 use Rattle.m3_wire.specs.Decoders as formats
 use Rattle.m3_wire.proofs.ExactDecoder.{Sound, Exact, mapped_sound}
@@ -21,6 +21,7 @@ use Rattle.m3_wire.proofs.NumberDecoderExact.{number_exact}
 use Rattle.m3_wire.proofs.HeaderDecoderExact.{after, small_exact, act_exact, ep_exact, grant_exact, label_exact, act_id_exact, kernel_id_exact, header_exact, counted_exact}
 use Rattle.m3_wire.proofs.TaggedChoice.{Any, kind_exact, answer_form_exact, record_form_exact, refusal_exact, perm_exact, kind_code, answer_code, record_code, kinds_exact}
 use Rattle.m3_wire.proofs.Results.{ok_same}
+use Rattle.m3_base.specs.Limits.{Within}
 
 -- where the front of a reading is one kind of several
 module _ {K P X : Type 0} (kind_in : P → K) (k : K) (Good : P → Type 0) (fields : P → List ℕ) (f : X → P) {reader : List ℕ → Result (X × List ℕ) Fault} {GoodX : X → Type 0} {spell : X → List ℕ}
@@ -45,12 +46,12 @@ whole_sound {P} p Good fields good is = record {
   some = (p, good);
 }
 
-abbrev pub form_in : Answer → AnswerForm
-form_in Answer.Sent = AnswerForm.Sent
-form_in Answer.Replied = AnswerForm.Replied
-form_in Answer.Written = AnswerForm.Written
-form_in (Answer.Bytes bytes) = AnswerForm.Bytes
-form_in (Answer.Refused why) = AnswerForm.Refused
+abbrev pub form_in : Answer → AnswerTag
+form_in Answer.Sent = AnswerTag.Sent
+form_in Answer.Replied = AnswerTag.Replied
+form_in Answer.Written = AnswerTag.Written
+form_in (Answer.Bytes bytes) = AnswerTag.Bytes
+form_in (Answer.Refused why) = AnswerTag.Refused
 
 abbrev answer_fields : Answer → List ℕ
 answer_fields a = drop 1 (Packets.answer_bytes a)
@@ -62,18 +63,18 @@ answer_whole Answer.Written = refl
 answer_whole (Answer.Bytes bytes) = refl
 answer_whole (Answer.Refused why) = refl
 
-abbrev FitsForm : AnswerForm → Answer → Type 0
+abbrev FitsForm : AnswerTag → Answer → Type 0
 FitsForm k a = (form_in a ≡ k) × Packets.FitsAnswer a
 
 bytes_answer : Exact (formats.length_prefixed 4096) (λ bytes. Within 0 4096 (length bytes)) Packets.counted_bytes
 bytes_answer = counted_exact 4096 (omega arith)
 
-answer_sound : (k : AnswerForm) → Sound (formats.answer_by k) (FitsForm k) answer_fields
-answer_sound AnswerForm.Sent = whole_sound Answer.Sent (FitsForm AnswerForm.Sent) answer_fields (refl, tt) refl
-answer_sound AnswerForm.Replied = whole_sound Answer.Replied (FitsForm AnswerForm.Replied) answer_fields (refl, tt) refl
-answer_sound AnswerForm.Written = whole_sound Answer.Written (FitsForm AnswerForm.Written) answer_fields (refl, tt) refl
-answer_sound AnswerForm.Bytes = of_kind form_in AnswerForm.Bytes Packets.FitsAnswer answer_fields Answer.Bytes (λ x. refl) (λ x g. g) (λ x g. refl) bytes_answer
-answer_sound AnswerForm.Refused = of_kind form_in AnswerForm.Refused Packets.FitsAnswer answer_fields Answer.Refused (λ x. refl) (λ x g. tt) (λ x g. refl) refusal_exact
+answer_sound : (k : AnswerTag) → Sound (formats.answer_by k) (FitsForm k) answer_fields
+answer_sound AnswerTag.Sent = whole_sound Answer.Sent (FitsForm AnswerTag.Sent) answer_fields (refl, tt) refl
+answer_sound AnswerTag.Replied = whole_sound Answer.Replied (FitsForm AnswerTag.Replied) answer_fields (refl, tt) refl
+answer_sound AnswerTag.Written = whole_sound Answer.Written (FitsForm AnswerTag.Written) answer_fields (refl, tt) refl
+answer_sound AnswerTag.Bytes = of_kind form_in AnswerTag.Bytes Packets.FitsAnswer answer_fields Answer.Bytes (λ x. refl) (λ x g. g) (λ x g. refl) bytes_answer
+answer_sound AnswerTag.Refused = of_kind form_in AnswerTag.Refused Packets.FitsAnswer answer_fields Answer.Refused (λ x. refl) (λ x g. tt) (λ x g. refl) refusal_exact
 
 answer_again : (a : Answer) (rest : List ℕ) → Packets.FitsAnswer a → formats.answer_by (form_in a) (answer_fields a ++ rest) ≡ Ok (a, rest)
 answer_again Answer.Sent rest g = refl
@@ -85,10 +86,10 @@ answer_again (Answer.Refused why) rest g = read_again Answer.Refused refusal_exa
 pub answer_exact : Exact formats.answer Packets.FitsAnswer Packets.answer_bytes
 answer_exact = kinds_exact formats.answer_form_of answer_code answer_form_exact formats.answer_by formats.answer_of (λ z. refl) form_in Packets.FitsAnswer answer_fields Packets.answer_bytes answer_whole answer_sound answer_again
 
-abbrev pub record_in : Fresh → RecordForm
-record_in (Fresh.Send grant to to_ep to_grant label size limit) = RecordForm.Send
-record_in (Fresh.Receive grant slots size) = RecordForm.Receive
-record_in (Fresh.Memory grant start len perm) = RecordForm.Memory
+abbrev pub record_in : Fresh → RecordTag
+record_in (Fresh.Send grant to to_ep to_grant label size limit) = RecordTag.Send
+record_in (Fresh.Receive grant slots size) = RecordTag.Receive
+record_in (Fresh.Memory grant start len perm) = RecordTag.Memory
 
 abbrev fresh_fields : Fresh → List ℕ
 fresh_fields a = drop 1 (Packets.fresh_bytes a)
@@ -123,12 +124,12 @@ memory_exact : Exact formats.memory_fields MemoryGood (λ z. fresh_fields (forma
 memory_exact = after grant_exact (λ g h0. after (number_exact 4 0 (Packets.most_memory - 1) (omega arith) (omega arith) (lit< tt)) (λ start h1.
     after (number_exact 4 1 (Packets.most_memory - start) (omega arith) (start_small start h1) (omega arith)) (λ len h2. perm_exact)))
 
-fresh_sound : (k : RecordForm) → Sound (formats.fresh_by k) (λ a. (record_in a ≡ k) × Packets.FitsFresh a) fresh_fields
-fresh_sound RecordForm.Send = of_kind record_in RecordForm.Send Packets.FitsFresh fresh_fields formats.send_of (λ x. refl)
+fresh_sound : (k : RecordTag) → Sound (formats.fresh_by k) (λ a. (record_in a ≡ k) × Packets.FitsFresh a) fresh_fields
+fresh_sound RecordTag.Send = of_kind record_in RecordTag.Send Packets.FitsFresh fresh_fields formats.send_of (λ x. refl)
     (λ z g. (g.0, g.1.0, g.1.1.0, g.1.1.1.0, g.1.1.1.1.0, g.1.1.1.1.1.0, g.1.1.1.1.1.1)) (λ z g. refl) send_exact
-fresh_sound RecordForm.Receive = of_kind record_in RecordForm.Receive Packets.FitsFresh fresh_fields formats.receive_of (λ x. refl)
+fresh_sound RecordTag.Receive = of_kind record_in RecordTag.Receive Packets.FitsFresh fresh_fields formats.receive_of (λ x. refl)
     (λ z g. (g.0, g.1.0, g.1.1)) (λ z g. refl) receive_exact
-fresh_sound RecordForm.Memory = of_kind record_in RecordForm.Memory Packets.FitsFresh fresh_fields formats.memory_of (λ x. refl)
+fresh_sound RecordTag.Memory = of_kind record_in RecordTag.Memory Packets.FitsFresh fresh_fields formats.memory_of (λ x. refl)
     (λ z g. (g.0, g.1.0, g.1.1.0)) (λ z g. refl) memory_exact
 
 fresh_again : (a : Fresh) (rest : List ℕ) → Packets.FitsFresh a → formats.fresh_by (record_in a) (fresh_fields a ++ rest) ≡ Ok (a, rest)
@@ -140,14 +141,14 @@ fresh_again (Fresh.Memory grant start len perm) rest g = read_again formats.memo
 pub fresh_exact : Exact formats.fresh Packets.FitsFresh Packets.fresh_bytes
 fresh_exact = kinds_exact formats.record_form_of record_code record_form_exact formats.fresh_by formats.fresh_of (λ z. refl) record_in Packets.FitsFresh fresh_fields Packets.fresh_bytes fresh_whole fresh_sound fresh_again
 
-abbrev pub kind_in : Packet → Kind
-kind_in (Packet.Message to ep grant message) = Kind.Message
-kind_in (Packet.Credit id to grant) = Kind.Credit
-kind_in (Packet.Read id grant place buffer) = Kind.Read
-kind_in (Packet.Write id grant place payload) = Kind.Write
-kind_in (Packet.Answer id answer) = Kind.Answer
-kind_in (Packet.Install id to ep fresh) = Kind.Install
-kind_in (Packet.Close id to ep grant) = Kind.Close
+abbrev pub kind_in : Packet → PacketTag
+kind_in (Packet.Message to ep grant message) = PacketTag.Message
+kind_in (Packet.Credit id to grant) = PacketTag.Credit
+kind_in (Packet.Read id grant place buffer) = PacketTag.Read
+kind_in (Packet.Write id grant place payload) = PacketTag.Write
+kind_in (Packet.Answer id answer) = PacketTag.Answer
+kind_in (Packet.Install id to ep fresh) = PacketTag.Install
+kind_in (Packet.Close id to ep grant) = PacketTag.Close
 
 abbrev packet_fields : Packet → List ℕ
 packet_fields p = drop 1 (Packets.packet_bytes p)
@@ -227,14 +228,14 @@ zeros_long n = length-replicate n 0
 read_fits : (z : FlightId × (ℕ × (ℕ × ℕ))) → ReadGood z → Packets.FitsPacket (formats.read_of z)
 read_fits z g = rw (zeros_long z.1.1.1) (g.0, g.1.0, (g.1.1.0, g.1.1.1), refl)
 
-packet_sound : (k : Kind) → Sound (formats.packet_by k) (λ p. (kind_in p ≡ k) × Packets.FitsPacket p) packet_fields
-packet_sound Kind.Message = of_kind kind_in Kind.Message Packets.FitsPacket packet_fields formats.message_of (λ x. refl) (λ z g. (g.0, g.1.0, g.1.1.0, g.1.1.1.0, g.1.1.1.1)) (λ z g. refl) message_exact
-packet_sound Kind.Credit = of_kind kind_in Kind.Credit Packets.FitsPacket packet_fields formats.credit_of (λ x. refl) (λ z g. (g.0, g.1.0, g.1.1)) (λ z g. refl) credit_exact
-packet_sound Kind.Read = of_kind kind_in Kind.Read Packets.FitsPacket packet_fields formats.read_of (λ x. refl) read_fits (λ z g. rw (zeros_long z.1.1.1) refl) read_exact
-packet_sound Kind.Write = of_kind kind_in Kind.Write Packets.FitsPacket packet_fields formats.write_of (λ x. refl) (λ z g. (g.0, g.1.0, (g.1.1.0, g.1.1.1))) (λ z g. refl) write_exact
-packet_sound Kind.Answer = of_kind kind_in Kind.Answer Packets.FitsPacket packet_fields formats.answered_of (λ x. refl) (λ z g. (g.0, g.1)) (λ z g. refl) answered_exact
-packet_sound Kind.Install = of_kind kind_in Kind.Install Packets.FitsPacket packet_fields formats.install_of (λ x. refl) (λ z g. (g.0, g.1.0, g.1.1.0, g.1.1.1)) (λ z g. refl) install_exact
-packet_sound Kind.Close = of_kind kind_in Kind.Close Packets.FitsPacket packet_fields formats.close_of (λ x. refl) (λ z g. (g.0, g.1.0, g.1.1.0, g.1.1.1)) (λ z g. refl) close_exact
+packet_sound : (k : PacketTag) → Sound (formats.packet_by k) (λ p. (kind_in p ≡ k) × Packets.FitsPacket p) packet_fields
+packet_sound PacketTag.Message = of_kind kind_in PacketTag.Message Packets.FitsPacket packet_fields formats.message_of (λ x. refl) (λ z g. (g.0, g.1.0, g.1.1.0, g.1.1.1.0, g.1.1.1.1)) (λ z g. refl) message_exact
+packet_sound PacketTag.Credit = of_kind kind_in PacketTag.Credit Packets.FitsPacket packet_fields formats.credit_of (λ x. refl) (λ z g. (g.0, g.1.0, g.1.1)) (λ z g. refl) credit_exact
+packet_sound PacketTag.Read = of_kind kind_in PacketTag.Read Packets.FitsPacket packet_fields formats.read_of (λ x. refl) read_fits (λ z g. rw (zeros_long z.1.1.1) refl) read_exact
+packet_sound PacketTag.Write = of_kind kind_in PacketTag.Write Packets.FitsPacket packet_fields formats.write_of (λ x. refl) (λ z g. (g.0, g.1.0, (g.1.1.0, g.1.1.1))) (λ z g. refl) write_exact
+packet_sound PacketTag.Answer = of_kind kind_in PacketTag.Answer Packets.FitsPacket packet_fields formats.answered_of (λ x. refl) (λ z g. (g.0, g.1)) (λ z g. refl) answered_exact
+packet_sound PacketTag.Install = of_kind kind_in PacketTag.Install Packets.FitsPacket packet_fields formats.install_of (λ x. refl) (λ z g. (g.0, g.1.0, g.1.1.0, g.1.1.1)) (λ z g. refl) install_exact
+packet_sound PacketTag.Close = of_kind kind_in PacketTag.Close Packets.FitsPacket packet_fields formats.close_of (λ x. refl) (λ z g. (g.0, g.1.0, g.1.1.0, g.1.1.1)) (λ z g. refl) close_exact
 
 abbrev read_packet : FlightId → ℕ → ℕ → List ℕ → List ℕ → Result (Packet × List ℕ) Fault
 read_packet id grant place buffer rest = Ok (Packet.Read id grant place buffer, rest)

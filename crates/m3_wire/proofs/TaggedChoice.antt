@@ -3,9 +3,9 @@ use Rattle.std.proofs.Common.{◌≡◌, ℕ, Bool, true, false, cond, eqb, List
 use Rattle.std.proofs.lemmas.Bool.{eqb-true}
 use Rattle.m3_base.specs.declared.command.Refusal.{Refusal}
 use Rattle.m3_base.specs.declared.packet.Perm.{Perm}
-use Rattle.m3_wire.specs.declared.codes.Kind.{Kind}
-use Rattle.m3_wire.specs.declared.codes.AnswerForm.{AnswerForm}
-use Rattle.m3_wire.specs.declared.codes.RecordForm.{RecordForm}
+use Rattle.m3_wire.specs.declared.codes.PacketTag.{PacketTag}
+use Rattle.m3_wire.specs.declared.codes.AnswerTag.{AnswerTag}
+use Rattle.m3_wire.specs.declared.codes.RecordTag.{RecordTag}
 use Rattle.m3_wire.specs.ByteReader.{Fault, coded, pair, mapped}
 use Rattle.m3_wire.specs.Decoders.{code_of_refusal, perm_of, kind_of, answer_form_of, record_form_of}
 use Rattle.m3_base.specs.RefusalCodes.{refusal_code}
@@ -74,78 +74,78 @@ perm_back c x e =
 pub perm_exact : Exact (coded perm_of) Any (λ y. perm_code y ∷ [])
 perm_exact = code_exact perm_of perm_code perm_known perm_back Perm.R
 
-abbrev pub kind_code : Kind → ℕ
-kind_code Kind.Message = 1
-kind_code Kind.Credit = 2
-kind_code Kind.Read = 3
-kind_code Kind.Write = 4
-kind_code Kind.Answer = 5
-kind_code Kind.Install = 6
-kind_code Kind.Close = 7
+abbrev pub kind_code : PacketTag → ℕ
+kind_code PacketTag.Message = 1
+kind_code PacketTag.Credit = 2
+kind_code PacketTag.Read = 3
+kind_code PacketTag.Write = 4
+kind_code PacketTag.Answer = 5
+kind_code PacketTag.Install = 6
+kind_code PacketTag.Close = 7
 
-kind_known : (x : Kind) → kind_of (kind_code x) ≡ Some x
-kind_known Kind.Message = refl
-kind_known Kind.Credit = refl
-kind_known Kind.Read = refl
-kind_known Kind.Write = refl
-kind_known Kind.Answer = refl
-kind_known Kind.Install = refl
-kind_known Kind.Close = refl
+kind_known : (x : PacketTag) → kind_of (kind_code x) ≡ Some x
+kind_known PacketTag.Message = refl
+kind_known PacketTag.Credit = refl
+kind_known PacketTag.Read = refl
+kind_known PacketTag.Write = refl
+kind_known PacketTag.Answer = refl
+kind_known PacketTag.Install = refl
+kind_known PacketTag.Close = refl
 
-kind_back : (c : ℕ) (x : Kind) → kind_of c ≡ Some x → c ≡ kind_code x
+kind_back : (c : ℕ) (x : PacketTag) → kind_of c ≡ Some x → c ≡ kind_code x
 kind_back c x e =
-    link kind_code c 1 Kind.Message x _ refl (
-    link kind_code c 2 Kind.Credit x _ refl (
-    link kind_code c 3 Kind.Read x _ refl (
-    link kind_code c 4 Kind.Write x _ refl (
-    link kind_code c 5 Kind.Answer x _ refl (
-    link kind_code c 6 Kind.Install x _ refl (
-    link kind_code c 7 Kind.Close x None refl (λ f. absurd cc))))))) e
+    link kind_code c 1 PacketTag.Message x _ refl (
+    link kind_code c 2 PacketTag.Credit x _ refl (
+    link kind_code c 3 PacketTag.Read x _ refl (
+    link kind_code c 4 PacketTag.Write x _ refl (
+    link kind_code c 5 PacketTag.Answer x _ refl (
+    link kind_code c 6 PacketTag.Install x _ refl (
+    link kind_code c 7 PacketTag.Close x None refl (λ f. absurd cc))))))) e
 
 pub kind_exact : Exact (coded kind_of) Any (λ y. kind_code y ∷ [])
-kind_exact = code_exact kind_of kind_code kind_known kind_back Kind.Close
+kind_exact = code_exact kind_of kind_code kind_known kind_back PacketTag.Close
 
-abbrev pub answer_code : AnswerForm → ℕ
-answer_code AnswerForm.Sent = 0
-answer_code AnswerForm.Replied = 1
-answer_code AnswerForm.Written = 2
-answer_code AnswerForm.Bytes = 3
-answer_code AnswerForm.Refused = 4
+abbrev pub answer_code : AnswerTag → ℕ
+answer_code AnswerTag.Sent = 0
+answer_code AnswerTag.Replied = 1
+answer_code AnswerTag.Written = 2
+answer_code AnswerTag.Bytes = 3
+answer_code AnswerTag.Refused = 4
 
-answer_known : (x : AnswerForm) → answer_form_of (answer_code x) ≡ Some x
-answer_known AnswerForm.Sent = refl
-answer_known AnswerForm.Replied = refl
-answer_known AnswerForm.Written = refl
-answer_known AnswerForm.Bytes = refl
-answer_known AnswerForm.Refused = refl
+answer_known : (x : AnswerTag) → answer_form_of (answer_code x) ≡ Some x
+answer_known AnswerTag.Sent = refl
+answer_known AnswerTag.Replied = refl
+answer_known AnswerTag.Written = refl
+answer_known AnswerTag.Bytes = refl
+answer_known AnswerTag.Refused = refl
 
-answer_back : (c : ℕ) (x : AnswerForm) → answer_form_of c ≡ Some x → c ≡ answer_code x
+answer_back : (c : ℕ) (x : AnswerTag) → answer_form_of c ≡ Some x → c ≡ answer_code x
 answer_back c x e =
-    link answer_code c 0 AnswerForm.Sent x _ refl (
-    link answer_code c 1 AnswerForm.Replied x _ refl (
-    link answer_code c 2 AnswerForm.Written x _ refl (
-    link answer_code c 3 AnswerForm.Bytes x _ refl (
-    link answer_code c 4 AnswerForm.Refused x None refl (λ f. absurd cc))))) e
+    link answer_code c 0 AnswerTag.Sent x _ refl (
+    link answer_code c 1 AnswerTag.Replied x _ refl (
+    link answer_code c 2 AnswerTag.Written x _ refl (
+    link answer_code c 3 AnswerTag.Bytes x _ refl (
+    link answer_code c 4 AnswerTag.Refused x None refl (λ f. absurd cc))))) e
 
 pub answer_form_exact : Exact (coded answer_form_of) Any (λ y. answer_code y ∷ [])
-answer_form_exact = code_exact answer_form_of answer_code answer_known answer_back AnswerForm.Sent
+answer_form_exact = code_exact answer_form_of answer_code answer_known answer_back AnswerTag.Sent
 
-abbrev pub record_code : RecordForm → ℕ
-record_code RecordForm.Send = 1
-record_code RecordForm.Receive = 2
-record_code RecordForm.Memory = 3
+abbrev pub record_code : RecordTag → ℕ
+record_code RecordTag.Send = 1
+record_code RecordTag.Receive = 2
+record_code RecordTag.Memory = 3
 
-record_known : (x : RecordForm) → record_form_of (record_code x) ≡ Some x
-record_known RecordForm.Send = refl
-record_known RecordForm.Receive = refl
-record_known RecordForm.Memory = refl
+record_known : (x : RecordTag) → record_form_of (record_code x) ≡ Some x
+record_known RecordTag.Send = refl
+record_known RecordTag.Receive = refl
+record_known RecordTag.Memory = refl
 
-record_back : (c : ℕ) (x : RecordForm) → record_form_of c ≡ Some x → c ≡ record_code x
+record_back : (c : ℕ) (x : RecordTag) → record_form_of c ≡ Some x → c ≡ record_code x
 record_back c x e =
-    link record_code c 1 RecordForm.Send x _ refl (link record_code c 2 RecordForm.Receive x _ refl (link record_code c 3 RecordForm.Memory x None refl (λ f. absurd cc))) e
+    link record_code c 1 RecordTag.Send x _ refl (link record_code c 2 RecordTag.Receive x _ refl (link record_code c 3 RecordTag.Memory x None refl (λ f. absurd cc))) e
 
 pub record_form_exact : Exact (coded record_form_of) Any (λ y. record_code y ∷ [])
-record_form_exact = code_exact record_form_of record_code record_known record_back RecordForm.Send
+record_form_exact = code_exact record_form_of record_code record_known record_back RecordTag.Send
 
 -- values of several kinds, each spelled by its kind's byte and its fields
 module _ {K P : Type 0} (pick : ℕ → Option K) (code : K → ℕ) (kind : Exact (coded pick) Any (λ k. code k ∷ [])) (body : K → List ℕ → Result (P × List ℕ) Fault)

@@ -9,9 +9,9 @@ use Rattle.m3_base.specs.declared.packet.Packet.{Packet}
 use Rattle.m3_base.specs.declared.packet.Perm.{Perm}
 use Rattle.m3_base.specs.Ideal.Flights.{kernel}
 use Rattle.m3_base.specs.Limits.{is_within}
-use Rattle.m3_wire.specs.declared.codes.Kind.{Kind}
-use Rattle.m3_wire.specs.declared.codes.AnswerForm.{AnswerForm}
-use Rattle.m3_wire.specs.declared.codes.RecordForm.{RecordForm}
+use Rattle.m3_wire.specs.declared.codes.PacketTag.{PacketTag}
+use Rattle.m3_wire.specs.declared.codes.AnswerTag.{AnswerTag}
+use Rattle.m3_wire.specs.declared.codes.RecordTag.{RecordTag}
 use Rattle.m3_wire.specs.ByteReader.{Fault, number, coded, byte, some_bytes, pair, mapped}
 use Rattle.m3_wire.specs.Headers.{is_reply_ep, least_reply, most_reply}
 use Rattle.m3_wire.specs.Packets.{most_memory}
@@ -105,37 +105,37 @@ code_of_refusal c =
 abbrev pub perm_of : ℕ → Option Perm
 perm_of c = if c == 1 then Some Perm.R else if c == 2 then Some Perm.W else if c == 3 then Some Perm.Rw else None
 
-abbrev pub kind_of : ℕ → Option Kind
+abbrev pub kind_of : ℕ → Option PacketTag
 kind_of c =
-    if c == 1 then Some Kind.Message
-    else if c == 2 then Some Kind.Credit
-    else if c == 3 then Some Kind.Read
-    else if c == 4 then Some Kind.Write
-    else if c == 5 then Some Kind.Answer
-    else if c == 6 then Some Kind.Install
-    else if c == 7 then Some Kind.Close
+    if c == 1 then Some PacketTag.Message
+    else if c == 2 then Some PacketTag.Credit
+    else if c == 3 then Some PacketTag.Read
+    else if c == 4 then Some PacketTag.Write
+    else if c == 5 then Some PacketTag.Answer
+    else if c == 6 then Some PacketTag.Install
+    else if c == 7 then Some PacketTag.Close
     else None
 
-abbrev pub answer_form_of : ℕ → Option AnswerForm
+abbrev pub answer_form_of : ℕ → Option AnswerTag
 answer_form_of c =
-    if c == 0 then Some AnswerForm.Sent
-    else if c == 1 then Some AnswerForm.Replied
-    else if c == 2 then Some AnswerForm.Written
-    else if c == 3 then Some AnswerForm.Bytes
-    else if c == 4 then Some AnswerForm.Refused
+    if c == 0 then Some AnswerTag.Sent
+    else if c == 1 then Some AnswerTag.Replied
+    else if c == 2 then Some AnswerTag.Written
+    else if c == 3 then Some AnswerTag.Bytes
+    else if c == 4 then Some AnswerTag.Refused
     else None
 
-abbrev pub record_form_of : ℕ → Option RecordForm
-record_form_of c = if c == 1 then Some RecordForm.Send else if c == 2 then Some RecordForm.Receive else if c == 3 then Some RecordForm.Memory else None
+abbrev pub record_form_of : ℕ → Option RecordTag
+record_form_of c = if c == 1 then Some RecordTag.Send else if c == 2 then Some RecordTag.Receive else if c == 3 then Some RecordTag.Memory else None
 
-abbrev pub answer_by : AnswerForm → List ℕ → Result (Answer × List ℕ) Fault
-answer_by AnswerForm.Sent = whole Answer.Sent
-answer_by AnswerForm.Replied = whole Answer.Replied
-answer_by AnswerForm.Written = whole Answer.Written
-answer_by AnswerForm.Bytes = mapped Answer.Bytes (length_prefixed 4096)
-answer_by AnswerForm.Refused = mapped Answer.Refused (coded code_of_refusal)
+abbrev pub answer_by : AnswerTag → List ℕ → Result (Answer × List ℕ) Fault
+answer_by AnswerTag.Sent = whole Answer.Sent
+answer_by AnswerTag.Replied = whole Answer.Replied
+answer_by AnswerTag.Written = whole Answer.Written
+answer_by AnswerTag.Bytes = mapped Answer.Bytes (length_prefixed 4096)
+answer_by AnswerTag.Refused = mapped Answer.Refused (coded code_of_refusal)
 
-abbrev pub answer_of : AnswerForm × Answer → Answer
+abbrev pub answer_of : AnswerTag × Answer → Answer
 answer_of z = z.1
 
 abbrev pub answer : List ℕ → Result (Answer × List ℕ) Fault
@@ -162,12 +162,12 @@ abbrev pub memory_fields : List ℕ → Result ((ℕ × (ℕ × (ℕ × Perm))) 
 memory_fields =
     pair grant (λ g. pair (number 4 0 (most_memory - 1)) (λ start. pair (number 4 1 (most_memory - start)) (λ len. coded perm_of)))
 
-abbrev pub fresh_by : RecordForm → List ℕ → Result (Fresh × List ℕ) Fault
-fresh_by RecordForm.Send = mapped send_of send_fields
-fresh_by RecordForm.Receive = mapped receive_of receive_fields
-fresh_by RecordForm.Memory = mapped memory_of memory_fields
+abbrev pub fresh_by : RecordTag → List ℕ → Result (Fresh × List ℕ) Fault
+fresh_by RecordTag.Send = mapped send_of send_fields
+fresh_by RecordTag.Receive = mapped receive_of receive_fields
+fresh_by RecordTag.Memory = mapped memory_of memory_fields
 
-abbrev pub fresh_of : RecordForm × Fresh → Fresh
+abbrev pub fresh_of : RecordTag × Fresh → Fresh
 fresh_of z = z.1
 
 abbrev pub fresh : List ℕ → Result (Fresh × List ℕ) Fault
@@ -242,16 +242,16 @@ close_fields = pair kernel_id (λ id. pair act (λ to. pair ep (λ e. grant)))
 abbrev pub close : List ℕ → Result (Packet × List ℕ) Fault
 close = mapped close_of close_fields
 
-abbrev pub packet_by : Kind → List ℕ → Result (Packet × List ℕ) Fault
-packet_by Kind.Message = message
-packet_by Kind.Credit = credit
-packet_by Kind.Read = read
-packet_by Kind.Write = write
-packet_by Kind.Answer = answered_packet
-packet_by Kind.Install = install
-packet_by Kind.Close = close
+abbrev pub packet_by : PacketTag → List ℕ → Result (Packet × List ℕ) Fault
+packet_by PacketTag.Message = message
+packet_by PacketTag.Credit = credit
+packet_by PacketTag.Read = read
+packet_by PacketTag.Write = write
+packet_by PacketTag.Answer = answered_packet
+packet_by PacketTag.Install = install
+packet_by PacketTag.Close = close
 
-abbrev pub packet_of : Kind × Packet → Packet
+abbrev pub packet_of : PacketTag × Packet → Packet
 packet_of z = z.1
 
 abbrev pub packet : List ℕ → Result (Packet × List ℕ) Fault

@@ -3,9 +3,7 @@ use Rattle.std.specs.Prelude.{◌≡◌, ℕ, ◌≤◌, ◌==◌, nat_le, ◌||
 use Rattle.byteorder.specs.Endian.{little_bytes}
 use Rattle.m3_base.specs.declared.message.Header.{Header}
 use Rattle.m3_wire.specs.declared.refusal.Part.{Part}
-
-abbrev pub Within : ℕ → ℕ → ℕ → Type 0
-Within least most n = (least ≤ n) × (n ≤ most)
+use Rattle.m3_base.specs.Limits.{Within}
 
 abbrev pub IsAct : ℕ → Type 0
 IsAct a = Within 0 63 a

@@ -9,7 +9,8 @@ use Rattle.m3_base.specs.declared.packet.Perm.{Perm}
 use Rattle.m3_base.specs.Ideal.Flights.{kernel}
 use Rattle.m3_base.specs.RefusalCodes.{refusal_code}
 use Rattle.m3_wire.specs.declared.refusal.Part.{Part}
-use Rattle.m3_wire.specs.Headers.{Within, IsAct, IsGrant, IsCount, IsLabel, FitsHeader, header_bytes, header_part}
+use Rattle.m3_wire.specs.Headers.{IsAct, IsGrant, IsCount, IsLabel, FitsHeader, header_bytes, header_part}
+use Rattle.m3_base.specs.Limits.{Within}
 
 abbrev pub IsEp : ℕ → Type 0
 IsEp e = Within 0 15 e

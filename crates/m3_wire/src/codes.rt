@@ -7,20 +7,20 @@ use m3_base::command::Refusal;
 use m3_base::packet::Perm;
 
 /// Something that a byte stands for.
-pub trait Code: Sized + Drop {
+pub trait TagCode: Sized + Drop {
     ghost use Rattle.std.specs.Prelude.{◌≡◌, ℕ, Option};
 
     // What each byte stands for.
     ghost of_byte: { ℕ → Option Self };
 
     /// What this byte stands for, if anything.
-    fn of(byte: u8) -> Option<Self>
+    fn from_code(byte: u8) -> Option<Self>
         ensures { result ≡ of_byte byte };
 }
 
 /// The kinds of packets, 1 to 7 in this order.
 #[derive(Clone, Copy, Debug, PartialEq, Eq, Drop)]
-pub enum Kind {
+pub enum PacketTag {
     Message,
     Credit,
     Read,
@@ -32,7 +32,7 @@ pub enum Kind {
 
 /// The forms of answers, 0 to 4 in this order.
 #[derive(Clone, Copy, Debug, PartialEq, Eq, Drop)]
-pub enum AnswerForm {
+pub enum AnswerTag {
     Sent,
     Replied,
     Written,
@@ -42,61 +42,61 @@ pub enum AnswerForm {
 
 /// The forms of records, 1 to 3 in this order.
 #[derive(Clone, Copy, Debug, PartialEq, Eq, Drop)]
-pub enum RecordForm {
+pub enum RecordTag {
     Send,
     Receive,
     Memory,
 }
 
-impl Code for Kind {
+impl TagCode for PacketTag {
     ghost of_byte = { kind_of };
 
-    fn of(byte: u8) -> Option<Kind> {
+    fn from_code(byte: u8) -> Option<PacketTag> {
         match byte {
-            1 => Some(Kind::Message),
-            2 => Some(Kind::Credit),
-            3 => Some(Kind::Read),
-            4 => Some(Kind::Write),
-            5 => Some(Kind::Answer),
-            6 => Some(Kind::Install),
-            7 => Some(Kind::Close),
+            1 => Some(PacketTag::Message),
+            2 => Some(PacketTag::Credit),
+            3 => Some(PacketTag::Read),
+            4 => Some(PacketTag::Write),
+            5 => Some(PacketTag::Answer),
+            6 => Some(PacketTag::Install),
+            7 => Some(PacketTag::Close),
             _ => None,
         }
     }
 }
 
-impl Code for AnswerForm {
+impl TagCode for AnswerTag {
     ghost of_byte = { answer_form_of };
 
-    fn of(byte: u8) -> Option<AnswerForm> {
+    fn from_code(byte: u8) -> Option<AnswerTag> {
         match byte {
-            0 => Some(AnswerForm::Sent),
-            1 => Some(AnswerForm::Replied),
-            2 => Some(AnswerForm::Written),
-            3 => Some(AnswerForm::Bytes),
-            4 => Some(AnswerForm::Refused),
+            0 => Some(AnswerTag::Sent),
+            1 => Some(AnswerTag::Replied),
+            2 => Some(AnswerTag::Written),
+            3 => Some(AnswerTag::Bytes),
+            4 => Some(AnswerTag::Refused),
             _ => None,
         }
     }
 }
 
-impl Code for RecordForm {
+impl TagCode for RecordTag {
     ghost of_byte = { record_form_of };
 
-    fn of(byte: u8) -> Option<RecordForm> {
+    fn from_code(byte: u8) -> Option<RecordTag> {
         match byte {
-            1 => Some(RecordForm::Send),
-            2 => Some(RecordForm::Receive),
-            3 => Some(RecordForm::Memory),
+            1 => Some(RecordTag::Send),
+            2 => Some(RecordTag::Receive),
+            3 => Some(RecordTag::Memory),
             _ => None,
         }
     }
 }
 
-impl Code for Perm {
+impl TagCode for Perm {
     ghost of_byte = { perm_of };
 
-    fn of(byte: u8) -> Option<Perm> {
+    fn from_code(byte: u8) -> Option<Perm> {
         match byte {
             1 => Some(Perm::R),
             2 => Some(Perm::W),
@@ -106,10 +106,10 @@ impl Code for Perm {
     }
 }
 
-impl Code for Refusal {
+impl TagCode for Refusal {
     ghost of_byte = { code_of_refusal };
 
-    fn of(byte: u8) -> Option<Refusal> {
+    fn from_code(byte: u8) -> Option<Refusal> {
         match byte {
             1 => Some(Refusal::NoEndpoint),
             2 => Some(Refusal::NoCredits),

@@ -4,28 +4,31 @@ ghost use Rattle.std.specs.Prelude.{◌≡◌, ◌≤◌, IfOk};
 ghost use Rattle.m3_wire.specs.ByteReader.{Gives, Reads};
 ghost use Rattle.m3_wire.specs.Decoders.{act, ep, grant, count, label, place, most_from, act_id, kernel_id, length_prefixed};
 
-use crate::input::Input;
+use crate::reader::Reader;
 use crate::refusal::{Fault, ReadError};
 use m3_base::ids::{ActId, EpId, FlightId, GrantId};
 use m3_base::limits::{KERNEL, MOST_GRANTS, MOST_MEMORY};
 use m3_base::payload::Payload;
 use std::alloc::Global;
 
-impl<'a> Input<'a> {
+impl<'a> Reader<'a> {
+    #[inline(always)]
     pub fn act(&mut self) -> Result<ActId, Fault>
         ensures { Gives result self.new.rest.now (act self.old.rest.now) }
     {
-        let number = self.small(0, 63)?;
+        let number = self.byte_in_range(0, 63)?;
         Ok(ActId::new(number))
     }
 
+    #[inline(always)]
     pub fn ep(&mut self) -> Result<EpId, Fault>
         ensures { Gives result self.new.rest.now (ep self.old.rest.now) }
     {
-        let number = self.small(0, 15)?;
+        let number = self.byte_in_range(0, 15)?;
         Ok(EpId::new(number))
     }
 
+    #[inline(always)]
     pub fn grant(&mut self) -> Result<GrantId, Fault>
         ensures { Gives result self.new.rest.now (grant self.old.rest.now) }
     {
@@ -34,6 +37,7 @@ impl<'a> Input<'a> {
     }
 
     /// The number of a flight.
+    #[inline(always)]
     pub fn count(&mut self) -> Result<u32, Fault>
         ensures { Gives result self.new.rest.now (count self.old.rest.now) }
     {
@@ -41,12 +45,14 @@ impl<'a> Input<'a> {
         Ok(number as u32)
     }
 
+    #[inline(always)]
     pub fn label(&mut self) -> Result<u64, Fault>
         ensures { Gives result self.new.rest.now (label self.old.rest.now) }
     {
         self.number(8, 0, u64::MAX)
     }
 
+    #[inline(always)]
     pub fn place(&mut self) -> Result<u32, Fault>
         ensures value { Gives result self.new.rest.now (place self.old.rest.now) }
         ensures range { IfOk result (λ p. p ≤ 1048576) }
@@ -57,16 +63,18 @@ impl<'a> Input<'a> {
 
     /// The name of an activity's flight.
     #[tactic(auto, unfolding(crate::specs::ByteReader::pair, crate::specs::ByteReader::mapped))]
+    #[inline(always)]
     pub fn act_id(&mut self) -> Result<FlightId, Fault>
         ensures { Gives result self.new.rest.now (act_id self.old.rest.now) }
     {
-        let issuer = self.small(0, 63)?;
+        let issuer = self.byte_in_range(0, 63)?;
         let number = self.count()?;
         Ok(FlightId { issuer, number })
     }
 
     /// The name of a flight of the kernel, of which its number alone is spelled.
     #[tactic(auto, unfolding(crate::specs::ByteReader::mapped))]
+    #[inline(always)]
     pub fn kernel_id(&mut self) -> Result<FlightId, Fault>
         ensures { Gives result self.new.rest.now (kernel_id self.old.rest.now) }
     {
@@ -79,7 +87,8 @@ impl<'a> Input<'a> {
 
     /// At most `most` bytes behind their number.
     #[tactic(auto, unfolding(crate::specs::ByteReader::pair, crate::specs::ByteReader::mapped))]
-    pub fn counted(&mut self, alloc: Global, most: u16) -> Result<Payload, ReadError>
+    #[inline(always)]
+    pub fn length_prefixed(&mut self, alloc: Global, most: u16) -> Result<Payload, ReadError>
         ensures { Reads result self.new.rest.now (length_prefixed most self.old.rest.now) }
     {
         let len = self.number(2, 0, most as u64)?;

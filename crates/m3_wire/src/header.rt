@@ -8,9 +8,9 @@ ghost use Rattle.m3_wire.specs.Decoders.{header};
 ghost use Rattle.m3_wire.specs.Refusals.{refusal_of};
 ghost use Rattle.m3_base.specs.declared.message.Header.{Header};
 
-use crate::input::Input;
+use crate::encode::{u16_bytes, u32_bytes, u64_bytes};
+use crate::reader::Reader;
 use crate::refusal::{Fault, WireRefusal, bad_at, header_part};
-use crate::spelling::{u16_bytes, u32_bytes, u64_bytes};
 use m3_base::limits::{MOST_GRANTS, MOST_MESSAGE, NO_REPLY};
 use m3_base::message::Header;
 
@@ -31,16 +31,17 @@ pub fn encode_header(h: &Header) -> [u8; 28]
     ]
 }
 
-impl<'a> Input<'a> {
+impl<'a> Reader<'a> {
     /// A header.
     #[tactic(auto, unfolding(crate::specs::ByteReader::pair, crate::specs::ByteReader::mapped))]
+    #[inline(always)]
     pub fn header(&mut self) -> Result<Header, Fault>
         ensures { Gives result self.new.rest.now (header self.old.rest.now) }
     {
-        let flags = self.small(0, 1)?;
+        let flags = self.byte_in_range(0, 1)?;
         let reply_ep = self.reply_ep(flags)?;
         let sender = self.act()?;
-        let lane = self.small(0, 0)?;
+        let lane = self.byte_in_range(0, 0)?;
         let length = self.number(2, 0, MOST_MESSAGE as u64)?;
         let _ = self.number(2, 0, 0)?;
         let send = self.number(4, 1, MOST_GRANTS as u64)?;
@@ -84,7 +85,7 @@ pub fn decode_header(bytes: &[u8]) -> Result<Header, WireRefusal>
     ensures refused { IfErr result (λ e. Refuses IsHeader part_in_header bytes.now e × TakesNone e) }
     ensures again { (h : Header) (text rest : List ℕ) → IsHeader h text → bytes.now ≡ text ++ rest → IsRead result h }
 {
-    let mut input = Input { rest: bytes };
+    let mut input = Reader { rest: bytes };
     match input.header() {
         Ok(header) => Ok(header),
         Err(fault) => Err(refusal(bytes, fault)),

@@ -2,15 +2,15 @@
 #![tactic(auto)]
 
 mod codes;
+mod encode;
 mod fields;
 mod header;
-mod input;
 mod packet;
+mod reader;
 mod record;
 mod refusal;
-mod spelling;
 
+pub use encode::encode_packet;
 pub use header::{decode_header, encode_header};
 pub use packet::decode_packet;
 pub use refusal::WireRefusal;
-pub use spelling::encode_packet;

@@ -8,8 +8,8 @@ ghost use Rattle.m3_wire.specs.Decoders.{message, credit, read, write, answered_
 ghost use Rattle.m3_wire.specs.Refusals.{IsRefusal};
 ghost use Rattle.m3_base.specs.declared.packet.Packet.{Packet};
 
-use crate::codes::Kind;
-use crate::input::Input;
+use crate::codes::PacketTag;
+use crate::reader::Reader;
 use crate::refusal::{Fault, Part, ReadError, WireRefusal, bad_at, header_part};
 use m3_base::limits::{MOST_BYTES, MOST_MEMORY};
 use m3_base::message::Message;
@@ -33,8 +33,9 @@ fn zeros(alloc: Global, len: usize) -> Result<Payload, AllocError>
     Ok(Payload::new(bytes))
 }
 
-impl<'a> Input<'a> {
+impl<'a> Reader<'a> {
     #[tactic(auto, unfolding(crate::specs::ByteReader::pair, crate::specs::ByteReader::mapped))]
+    #[inline(always)]
     fn message(&mut self, alloc: Global) -> Result<Packet, ReadError>
         ensures { Reads result self.new.rest.now (message self.old.rest.now) }
     {
@@ -52,6 +53,7 @@ impl<'a> Input<'a> {
     }
 
     #[tactic(auto, unfolding(crate::specs::ByteReader::pair, crate::specs::ByteReader::mapped))]
+    #[inline(always)]
     fn credit(&mut self) -> Result<Packet, Fault>
         ensures { Gives result self.new.rest.now (credit self.old.rest.now) }
     {
@@ -62,6 +64,7 @@ impl<'a> Input<'a> {
     }
 
     #[tactic(auto, unfolding(crate::specs::ByteReader::pair, crate::specs::ByteReader::mapped))]
+    #[inline(always)]
     fn read(&mut self, alloc: Global) -> Result<Packet, ReadError>
         ensures { Reads result self.new.rest.now (read self.old.rest.now) }
     {
@@ -79,13 +82,14 @@ impl<'a> Input<'a> {
     }
 
     #[tactic(auto, unfolding(crate::specs::ByteReader::pair, crate::specs::ByteReader::mapped))]
+    #[inline(always)]
     fn write(&mut self, alloc: Global) -> Result<Packet, ReadError>
         ensures { Reads result self.new.rest.now (write self.old.rest.now) }
     {
         let id = self.act_id()?;
         let grant = self.grant()?;
         let place = self.place()?;
-        let payload = self.counted(alloc, most_from(place))?;
+        let payload = self.length_prefixed(alloc, most_from(place))?;
         Ok(Packet::Write {
             id,
             grant,
@@ -95,6 +99,7 @@ impl<'a> Input<'a> {
     }
 
     #[tactic(auto, unfolding(crate::specs::ByteReader::pair, crate::specs::ByteReader::mapped))]
+    #[inline(always)]
     fn answered(&mut self, alloc: Global) -> Result<Packet, ReadError>
         ensures { Reads result self.new.rest.now (answered_packet self.old.rest.now) }
     {
@@ -130,15 +135,15 @@ impl<'a> Input<'a> {
     fn packet(&mut self, alloc: Global) -> Result<Packet, ReadError>
         ensures { Reads result self.new.rest.now (packet self.old.rest.now) }
     {
-        let kind: Kind = self.coded()?;
+        let kind: PacketTag = self.tagged()?;
         match kind {
-            Kind::Message => self.message(alloc),
-            Kind::Credit => Ok(self.credit()?),
-            Kind::Read => self.read(alloc),
-            Kind::Write => self.write(alloc),
-            Kind::Answer => self.answered(alloc),
-            Kind::Install => Ok(self.install()?),
-            Kind::Close => Ok(self.close()?),
+            PacketTag::Message => self.message(alloc),
+            PacketTag::Credit => Ok(self.credit()?),
+            PacketTag::Read => self.read(alloc),
+            PacketTag::Write => self.write(alloc),
+            PacketTag::Answer => self.answered(alloc),
+            PacketTag::Install => Ok(self.install()?),
+            PacketTag::Close => Ok(self.close()?),
         }
     }
 }
@@ -171,9 +176,10 @@ fn refusal(bytes: &[u8], error: ReadError) -> WireRefusal
 pub fn decode_packet(alloc: Global, bytes: &[u8]) -> Result<(Packet, usize), WireRefusal>
     ensures found { IfOk result (λ x. IsFirst IsPacket bytes.now x.0 x.1) }
     ensures refused { IfErr result (λ e. Refuses IsPacket packet_part bytes.now e) }
-    ensures again { (p : Packet) (text rest : List ℕ) → IsPacket p text → bytes.now ≡ text ++ rest → IsRead result (p, length text) }
+    ensures again { (p : Packet) (text rest : List ℕ) → IsPacket p text → bytes.now ≡ text ++ rest →
+        IsRead result (p, length text) }
 {
-    let mut input = Input { rest: bytes };
+    let mut input = Reader { rest: bytes };
     match input.packet(alloc) {
         Ok(packet) => Ok((packet, bytes.len() - input.rest.len())),
         Err(error) => Err(refusal(bytes, error)),

@@ -3,33 +3,34 @@
 ghost use Rattle.std.specs.Prelude.{◌≡◌};
 ghost use Rattle.m3_wire.specs.ByteReader.{Gives, Reads};
 ghost use Rattle.m3_wire.specs.Decoders.{answer, fresh, fresh_by};
-ghost use Rattle.m3_wire.specs.declared.codes.RecordForm.TheVariants as RecordForm;
+ghost use Rattle.m3_wire.specs.declared.codes.RecordTag.TheVariants as RecordTag;
 
-use crate::codes::{AnswerForm, RecordForm};
-use crate::input::Input;
+use crate::codes::{AnswerTag, RecordTag};
+use crate::reader::Reader;
 use crate::refusal::{Fault, ReadError};
 use m3_base::command::{Answer, Refusal};
 use m3_base::limits::{MOST_BYTES, MOST_CREDITS, MOST_MEMORY, MOST_MESSAGE, MOST_SLOTS};
 use m3_base::packet::{Fresh, Perm};
 use std::alloc::Global;
 
-impl<'a> Input<'a> {
+impl<'a> Reader<'a> {
     /// An answer.
     #[tactic(auto, unfolding(crate::specs::ByteReader::pair, crate::specs::ByteReader::mapped))]
+    #[inline(always)]
     pub fn answer(&mut self, alloc: Global) -> Result<Answer, ReadError>
         ensures { Reads result self.new.rest.now (answer self.old.rest.now) }
     {
-        let form: AnswerForm = self.coded()?;
+        let form: AnswerTag = self.tagged()?;
         match form {
-            AnswerForm::Sent => Ok(Answer::Sent),
-            AnswerForm::Replied => Ok(Answer::Replied),
-            AnswerForm::Written => Ok(Answer::Written),
-            AnswerForm::Bytes => {
-                let bytes = self.counted(alloc, MOST_BYTES)?;
+            AnswerTag::Sent => Ok(Answer::Sent),
+            AnswerTag::Replied => Ok(Answer::Replied),
+            AnswerTag::Written => Ok(Answer::Written),
+            AnswerTag::Bytes => {
+                let bytes = self.length_prefixed(alloc, MOST_BYTES)?;
                 Ok(Answer::Bytes(bytes))
             }
-            AnswerForm::Refused => {
-                let why: Refusal = self.coded()?;
+            AnswerTag::Refused => {
+                let why: Refusal = self.tagged()?;
                 Ok(Answer::Refused(why))
             }
         }
@@ -40,17 +41,17 @@ impl<'a> Input<'a> {
     pub fn fresh(&mut self) -> Result<Fresh, Fault>
         ensures { Gives result self.new.rest.now (fresh self.old.rest.now) }
     {
-        let form: RecordForm = self.coded()?;
+        let form: RecordTag = self.tagged()?;
         match form {
-            RecordForm::Send => self.send_record(),
-            RecordForm::Receive => self.receive_record(),
-            RecordForm::Memory => self.memory_record(),
+            RecordTag::Send => self.send_record(),
+            RecordTag::Receive => self.receive_record(),
+            RecordTag::Memory => self.memory_record(),
         }
     }
 
     #[tactic(auto, unfolding(crate::specs::ByteReader::pair, crate::specs::ByteReader::mapped))]
     fn send_record(&mut self) -> Result<Fresh, Fault>
-        ensures { Gives result self.new.rest.now (fresh_by RecordForm.Send self.old.rest.now) }
+        ensures { Gives result self.new.rest.now (fresh_by RecordTag.Send self.old.rest.now) }
     {
         let grant = self.grant()?;
         let to = self.act()?;
@@ -58,7 +59,7 @@ impl<'a> Input<'a> {
         let to_grant = self.grant()?;
         let label = self.label()?;
         let size = self.number(2, 1, MOST_MESSAGE as u64)?;
-        let limit = self.small(1, MOST_CREDITS)?;
+        let limit = self.byte_in_range(1, MOST_CREDITS)?;
         Ok(Fresh::Send {
             grant,
             to,
@@ -72,10 +73,10 @@ impl<'a> Input<'a> {
 
     #[tactic(auto, unfolding(crate::specs::ByteReader::pair, crate::specs::ByteReader::mapped))]
     fn receive_record(&mut self) -> Result<Fresh, Fault>
-        ensures { Gives result self.new.rest.now (fresh_by RecordForm.Receive self.old.rest.now) }
+        ensures { Gives result self.new.rest.now (fresh_by RecordTag.Receive self.old.rest.now) }
     {
         let grant = self.grant()?;
-        let slots = self.small(1, MOST_SLOTS)?;
+        let slots = self.byte_in_range(1, MOST_SLOTS)?;
         let size = self.number(2, 1, MOST_MESSAGE as u64)?;
         Ok(Fresh::Receive {
             grant,
@@ -87,12 +88,12 @@ impl<'a> Input<'a> {
     // The range lies inside the largest memory and isn't empty.
     #[tactic(auto, unfolding(crate::specs::ByteReader::pair, crate::specs::ByteReader::mapped))]
     fn memory_record(&mut self) -> Result<Fresh, Fault>
-        ensures { Gives result self.new.rest.now (fresh_by RecordForm.Memory self.old.rest.now) }
+        ensures { Gives result self.new.rest.now (fresh_by RecordTag.Memory self.old.rest.now) }
     {
         let grant = self.grant()?;
         let start = self.number(4, 0, (MOST_MEMORY - 1) as u64)?;
         let length = self.number(4, 1, MOST_MEMORY as u64 - start)?;
-        let perm: Perm = self.coded()?;
+        let perm: Perm = self.tagged()?;
         Ok(Fresh::Memory {
             grant,
             start: start as u32,

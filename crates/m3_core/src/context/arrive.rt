@@ -7,9 +7,9 @@ ghost use Rattle.m3_base.specs.Ideal.Landing.{land, land_refusal, message_id, co
 ghost use Rattle.m3_base.specs.Ideal.Arrival.{arrive, message_arrives, answer_arrives, close_arrives, freed_context};
 ghost use Rattle.m3_base.specs.Ideal.Acceptance.{fits, is_message, fits_message, fits_answer, takes_credit};
 ghost use Rattle.m3_base.specs.Ideal.Step.{number_of};
-ghost use Rattle.m3_core.specs.EndpointStep.{joined_if};
-ghost use Rattle.m3_core.specs.Positions.{IsFlyingPlaceOf, IsSendPlaceOf};
 ghost use Rattle.m3_core.specs.ArrivalView.{arrived_as, arrived_by};
+ghost use Rattle.m3_base.specs.Ideal.EndpointStep.{joined_if};
+ghost use Rattle.m3_base.specs.Ideal.Positions.{IsFlyingPlaceOf, IsSendPlaceOf};
 
 use crate::arrived::Arrived;
 use crate::context::Context;
@@ -34,10 +34,12 @@ impl Context {
                 message,
                 ..
             } => self.land(ep, grant, message),
-            Packet::Credit { grant, .. } => Arrived::Credited(self.give(grant.number() as u32)),
+            Packet::Credit { grant, .. } => Arrived::Credited(self.return_credit(
+                grant.number() as u32,
+            )),
             Packet::Read { .. } => unreachable!(),
             Packet::Write { .. } => unreachable!(),
-            Packet::Answer { id, answer } => self.end(id, answer),
+            Packet::Answer { id, answer } => self.complete(id, answer),
             Packet::Install { ep, fresh, .. } => {
                 let grant = grant_of(&fresh);
                 self.install(ep, fresh);
@@ -48,14 +50,16 @@ impl Context {
     }
 
     /// A message or reply for the receive grant `grant` lands at an endpoint.
+    #[inline(always)]
     fn land(&mut self, ep: EpId, grant: GrantId, message: Message) -> Arrived
         requires { fits_message self.old ep grant message ≡ true }
-        ensures { message_arrives (message_id message) (land ep grant message self.old) ≡ Some (arrived_as (message_id message) 0 result self.new) }
+        ensures { message_arrives (message_id message) (land ep grant message self.old) ≡
+            Some (arrived_as (message_id message) 0 result self.new) }
     {
         let id = message.id();
         let is_reply = message.header.flags != 0;
         let send = message.header.send;
-        if let Some(why) = self.join(ep, grant, message) {
+        if let Some(why) = self.enqueue(ep, grant, message) {
             return Arrived::Refused(
                 why,
                 Packet::Answer {
@@ -70,7 +74,7 @@ impl Context {
                 answer: Answer::Sent,
             });
         }
-        let _ = self.give(send);
+        let _ = self.return_credit(send);
         Arrived::Landed(Packet::Answer {
             id,
             answer: Answer::Replied,
@@ -78,7 +82,8 @@ impl Context {
     }
 
     /// A message joins the unread ones of an endpoint, unless it is refused.
-    fn join(&mut self, ep: EpId, grant: GrantId, message: Message) -> Option<Refusal>
+    #[inline(always)]
+    fn enqueue(&mut self, ep: EpId, grant: GrantId, message: Message) -> Option<Refusal>
         requires { is_message message ≡ true }
         ensures answer { result ≡ land_refusal grant message (endpoint self.old ep) }
         ensures context { self.new ≡ with_endpoint self.old ep (joined_if result message (endpoint self.old ep)) }
@@ -87,7 +92,8 @@ impl Context {
     }
 
     /// A credit goes to the endpoint of the send grant `send`. False where no endpoint has it.
-    fn give(&mut self, send: u32) -> bool
+    #[inline(always)]
+    fn return_credit(&mut self, send: u32) -> bool
         requires { takes_credit send self.old ≡ true }
         ensures there { result ≡ has_send send self.old }
         ensures context { self.new ≡ with_credit send self.old }
@@ -103,30 +109,35 @@ impl Context {
 
     /// The answer to a command ends it, and frees its endpoint where the record is closing and no other command of the
     /// endpoint flies.
-    fn end(&mut self, id: FlightId, answer: Answer) -> Arrived
+    #[inline(always)]
+    fn complete(&mut self, id: FlightId, answer: Answer) -> Arrived
         requires { fits_answer self.old answer (flying_at id.number self.old.flying) ≡ true }
-        ensures { answer_arrives self.old id answer (flying_at id.number self.old.flying) ≡ Some (arrived_as id 0 result self.new) }
+        ensures { answer_arrives self.old id answer (flying_at id.number self.old.flying) ≡
+            Some (arrived_as id 0 result self.new) }
     {
-        let ep = self.settle(id.number, &answer);
+        let ep = self.apply_answer(id.number, &answer);
         let closed = self.free_if_closing(ep);
         Arrived::Answered(id, answer, closed)
     }
 
     /// The flying command of this number has this answer, and flies no more. It gives the command's endpoint.
-    fn settle(&mut self, number: u32, answer: &Answer) -> EpId
+    #[inline(always)]
+    fn apply_answer(&mut self, number: u32, answer: &Answer) -> EpId
         requires { fits_answer self.old answer.now (flying_at number self.old.flying) ≡ true }
-        ensures { IfSome (flying_at number self.old.flying) (λ f. (result ≡ f.ep) × (self.new ≡ context_after_answer f answer.now self.old)) }
+        ensures { IfSome (flying_at number self.old.flying)
+            (λ f. (result ≡ f.ep) × (self.new ≡ context_after_answer f answer.now self.old)) }
     {
         let Some(place) = flying_place(&self.flying, number) else {
             unreachable!()
         };
         let command = self.flying.remove(place);
         let ep = command.ep();
-        self.slots[ep.number() as usize].settle(command.kind(), command.token(), answer);
+        self.slots[ep.number() as usize].apply_answer(command.kind(), command.token(), answer);
         ep
     }
 
     /// Frees an endpoint whose record is closing, where none of its commands flies, and gives the record's grant.
+    #[inline(always)]
     fn free_if_closing(&mut self, ep: EpId) -> Option<GrantId>
         ensures closed { result ≡ freed_grant ep self.old }
         ensures context { self.new ≡ freed_context self.old ep result }
@@ -153,7 +164,9 @@ impl Context {
 
     /// The kernel closes the record of a grant.
     fn close(&mut self, id: FlightId, ep: EpId, grant: GrantId) -> Arrived
-        ensures { close_arrives self.old id ep grant (with_endpoint self.old ep (closed_at (endpoint self.old ep))) (flies_at ep self.old) ≡ Some (arrived_as id 0 result self.new) }
+        ensures { close_arrives self.old id ep grant
+            (with_endpoint self.old ep (closed_at (endpoint self.old ep))) (flies_at ep self.old) ≡
+            Some (arrived_as id 0 result self.new) }
     {
         let flies = self.flies_at(ep);
         let place = ep.number() as usize;
@@ -178,7 +191,7 @@ fn grant_of(fresh: &Fresh) -> GrantId
 }
 
 /// The place of the flying command of this number.
-#[tactic(auto, using(crate::proofs::Positions::flying_place))]
+#[tactic(auto, using(m3_base::proofs::Positions::flying_place))]
 pub fn flying_place(flying: &[Flying], number: u32) -> Option<usize>
     ensures { IsFlyingPlaceOf flying.now number result }
 {
@@ -192,7 +205,7 @@ fn flying_position(flying: &[Flying], number: u32) -> Option<usize>
 }
 
 /// The place of the endpoint of this send grant.
-#[tactic(auto, using(crate::proofs::Positions::is_send_place))]
+#[tactic(auto, using(m3_base::proofs::Positions::is_send_place))]
 pub fn send_place(slots: &[Slot], send: u32) -> Option<usize>
     ensures { IsSendPlaceOf slots.now send result }
 {
@@ -202,5 +215,5 @@ pub fn send_place(slots: &[Slot], send: u32) -> Option<usize>
 fn send_position(slots: &[Slot], send: u32) -> Option<usize>
     ensures { result ≡ position (sends_by send) slots.now }
 {
-    slots.iter().position(|s| s.sends_by(send))
+    slots.iter().position(|s| s.is_send_of(send))
 }

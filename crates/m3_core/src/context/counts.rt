@@ -4,8 +4,8 @@ ghost use Rattle.std.specs.Prelude.{◌≡◌, ℕ, ◌≤◌, ◌*◌, length, 
 ghost use Rattle.m3_base.specs.Lists.Counting.{total};
 ghost use Rattle.m3_base.specs.Ideal.Credits.{held_at, queued_at};
 ghost use Rattle.m3_base.specs.Ideal.Acceptance.{send_of};
-ghost use Rattle.m3_core.specs.Positions.{held_in};
 ghost use Rattle.m3_endpoint.specs.Counters.{Adds};
+ghost use Rattle.m3_core.specs.EndpointStep.{held_in};
 
 use crate::context::Context;
 use crate::context::arrive::send_place;

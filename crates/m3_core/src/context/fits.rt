@@ -83,7 +83,7 @@ impl Context {
     {
         match send_place(&self.slots, send) {
             None => true,
-            Some(place) => self.slots[place].takes_back(),
+            Some(place) => self.slots[place].has_credit_room(),
         }
     }
 
@@ -97,7 +97,7 @@ impl Context {
         let command = &self.flying[place];
         is_answer_for(command.kind(), answer)
             && (!is_returned(command.kind(), answer)
-                || self.slots[command.ep().number() as usize].takes_back())
+                || self.slots[command.ep().number() as usize].has_credit_room())
     }
 }
 

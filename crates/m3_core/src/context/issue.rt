@@ -3,9 +3,10 @@
 ghost use Rattle.std.specs.Prelude.{◌≡◌, ℕ, ◌<◌, ◌≤◌, true, false, None, Some, length, replicate, IsTrue};
 ghost use Rattle.m3_base.specs.Ideal.Context.{endpoint};
 ghost use Rattle.m3_base.specs.Ideal.Issue.{issue, is_busy, flies_always};
-ghost use Rattle.m3_core.specs.EndpointStep.{HasToken, oldest_at};
+ghost use Rattle.m3_core.specs.EndpointStep.{HasToken};
 ghost use Rattle.m3_core.specs.Preconditions.{HasTokenFor, IsBufferFor};
-ghost use Rattle.m3_core.specs.IssueView.{issued_by, oldest, reply_place};
+ghost use Rattle.m3_core.specs.IssueView.{issued_by, oldest, reply_to};
+ghost use Rattle.m3_base.specs.Ideal.EndpointStep.{oldest_at};
 
 use crate::context::Context;
 use crate::flying::Kind;
@@ -19,7 +20,7 @@ use m3_base::payload::Payload;
 
 /// A reply endpoint and its grant as a header has them, and whether the endpoint isn't a live receive record.
 #[derive(Clone, Copy, Debug, Drop)]
-pub struct ReplyPlace {
+pub struct ReplyTo {
     ep: u8,
     grant: u32,
     is_bad: bool,
@@ -45,13 +46,14 @@ impl Context {
         }
     }
 
+    #[inline(always)]
     fn send(&mut self, ep: EpId, payload: Payload, reply: Option<EpId>) -> Issued
         requires busy { is_busy self.old ≡ false }
         requires number { self.old.next < 4294967295 }
         ensures { issue self.old (Command.Send ep payload reply) ≡ issued_by None result self.new }
     {
         let length = payload.len();
-        let reply = self.reply_place(&reply);
+        let reply = self.reply_to(&reply);
         match self.slots[ep.number() as usize].send(length, reply.is_bad) {
             Err(why) => Issued::Refused(why),
             Ok(target) => {
@@ -82,6 +84,7 @@ impl Context {
     }
 
     #[tactic(auto, using(crate::proofs::RefusedReply::refused_reply))]
+    #[inline(always)]
     fn reply(&mut self, ep: EpId, token: u32, payload: Payload) -> Issued
         requires busy { is_busy self.old ≡ false }
         requires number { self.old.next < 4294967295 }
@@ -117,6 +120,7 @@ impl Context {
         }
     }
 
+    #[inline(always)]
     fn fetch(&mut self, ep: EpId) -> Issued
         requires { HasToken (endpoint self.old ep) }
         ensures { issue self.old (Command.Fetch ep) ≡ issued_by (oldest_at (endpoint self.old ep)) result self.new }
@@ -127,6 +131,7 @@ impl Context {
         }
     }
 
+    #[inline(always)]
     fn acknowledge(&mut self, ep: EpId, token: u32) -> Issued
         requires { self.old.next < 4294967295 }
         ensures { issue self.old (Command.Acknowledge ep token) ≡ issued_by None result self.new }
@@ -148,6 +153,7 @@ impl Context {
         }
     }
 
+    #[inline(always)]
     fn read(&mut self, ep: EpId, off: u32, len: u16, buffer: Payload) -> Issued
         requires busy { is_busy self.old ≡ false }
         requires number { self.old.next < 4294967295 }
@@ -172,6 +178,7 @@ impl Context {
         }
     }
 
+    #[inline(always)]
     fn write(&mut self, ep: EpId, off: u32, payload: Payload) -> Issued
         requires busy { is_busy self.old ≡ false }
         requires number { self.old.next < 4294967295 }
@@ -197,22 +204,23 @@ impl Context {
     }
 
     /// What a send's header says of its reply endpoint.
-    fn reply_place(&self, reply: &Option<EpId>) -> ReplyPlace
-        ensures { result ≡ reply_place self.now reply.now }
+    #[inline(always)]
+    fn reply_to(&self, reply: &Option<EpId>) -> ReplyTo
+        ensures { result ≡ reply_to self.now reply.now }
     {
         match reply {
-            None => ReplyPlace {
+            None => ReplyTo {
                 ep: NO_REPLY,
                 grant: 0,
                 is_bad: false,
             },
             Some(ep) => match self.slots[ep.number() as usize].live_receive() {
-                None => ReplyPlace {
+                None => ReplyTo {
                     ep: ep.number(),
                     grant: 0,
                     is_bad: true,
                 },
-                Some(grant) => ReplyPlace {
+                Some(grant) => ReplyTo {
                     ep: ep.number(),
                     grant: grant.number() as u32,
                     is_bad: false,

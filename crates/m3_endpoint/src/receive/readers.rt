@@ -9,7 +9,7 @@ ghost use Rattle.m3_endpoint.specs.RecordForms.{receive_form};
 ghost use Rattle.m3_endpoint.specs.TokenOrder.{is_smaller};
 ghost use Rattle.m3_endpoint.specs.ReceiveOps.{unread_at, token_in, message_at, unmarked_at, header_or_refusal, reply_header, marked_at, grant_in, size_in, closing_in, next_token_in, unread_count, fetched_count, token_at, message_in_order, queued_in};
 
-use crate::counts::raise;
+use crate::counters::add_saturating;
 use crate::fetched::{FetchedMessage, place_of};
 use crate::receive::ReceiveEp;
 use circular_buffer::HeapCircularBuffer;
@@ -221,7 +221,7 @@ fn count_message(message: &Message, counts: &mut [u32])
     ensures { Adds (λ g. one (is_sent_by g message.now)) counts.old counts.new }
 {
     if message.header.flags == 0 {
-        raise(counts, message.header.send, 1);
+        add_saturating(counts, message.header.send, 1);
     }
 }
 

@@ -4,9 +4,9 @@ ghost use Rattle.std.specs.Prelude.{◌≡◌, OnOk, OnErr};
 ghost use Rattle.std.specs.List.{position};
 ghost use Rattle.m3_base.specs.Ideal.Landing.{land_refusal, sends_by, flying_at, freed_grant};
 ghost use Rattle.m3_base.specs.Ideal.Context.{endpoint, with_endpoint};
-ghost use Rattle.m3_ideal.specs.Slots.{joined_if};
-ghost use Rattle.m3_ideal.specs.Places.{IsSendPlaceOf};
 ghost use Rattle.m3_ideal.specs.Landing.{credited_by, Lands, GivesTo, InstallsTo, Closes, Settles, Is_freed};
+ghost use Rattle.m3_base.specs.Ideal.EndpointStep.{joined_if};
+ghost use Rattle.m3_base.specs.Ideal.Positions.{IsSendPlaceOf};
 
 use crate::context::Context;
 use crate::flying::flying_place;
@@ -164,7 +164,7 @@ impl Context {
 }
 
 /// The place of the endpoint of this send grant.
-#[tactic(auto, using(crate::proofs::Places::send_place))]
+#[tactic(auto, using(m3_base::proofs::Positions::is_send_place))]
 fn send_place(slots: &[Slot], send: GrantId) -> Option<usize>
     ensures { IsSendPlaceOf slots.now send result }
 {

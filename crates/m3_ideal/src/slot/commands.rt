@@ -1,7 +1,8 @@
 //! One endpoint's part of each command.
 
 ghost use Rattle.std.specs.Prelude.{◌≡◌, true, IfOk, OnErr, option_copied};
-ghost use Rattle.m3_ideal.specs.Slots.{sent, changed_if, less_at, replying, marking_at, fetching, after_fetch_at, acknowledging, freed_at, accessing, send_by, less_unless, Fetches, oldest_at};
+ghost use Rattle.m3_ideal.specs.Slots.{sent, replying, acknowledging, accessing, send_by, less_unless, Fetches};
+ghost use Rattle.m3_base.specs.Ideal.EndpointStep.{changed_if, less_at, marking_at, after_fetch_at, freed_at, oldest_at, fetch_outcome};
 
 use crate::letter::{Address, Letter};
 use crate::records::SendEnd;

@@ -3,7 +3,7 @@
 ghost use Rattle.std.specs.Prelude.{◌≡◌, OnOk, OnErr};
 ghost use Rattle.m3_base.specs.Ideal.Landing.{land_refusal, more_at, endpoint_after_answer};
 ghost use Rattle.m3_ideal.specs.FlyingView.{kind_of};
-ghost use Rattle.m3_ideal.specs.Slots.{joined_if};
+ghost use Rattle.m3_base.specs.Ideal.EndpointStep.{joined_if};
 
 use crate::flying::Kind;
 use crate::letter::Letter;

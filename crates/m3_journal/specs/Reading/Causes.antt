@@ -7,7 +7,7 @@ use Rattle.m3_base.specs.declared.event.No.{No}
 use Rattle.m3_text.specs.declared.refusal.Why.{Why}
 use Rattle.m3_text.specs.declared.refusal.Why.TheVariants as why
 use Rattle.m3_text.specs.Refusable.{◌>>=◌}
-use Rattle.m3_journal.specs.Outcomes.{refusal_code}
+use Rattle.m3_journal.specs.Outcomes.{refusal_digits}
 
 unfoldable pub later_refusal_named : List ℕ → Result Refusal Why
 later_refusal_named w =
@@ -29,7 +29,7 @@ refusal_named w =
 
 -- a code and the name that goes with it
 unfoldable pub refusal_with_code : List ℕ → Refusal → Result Refusal Why
-refusal_with_code code r = if bytes_eq code (refusal_code r) then Ok r else Err why.Form
+refusal_with_code code r = if bytes_eq code (refusal_digits r) then Ok r else Err why.Form
 
 abbrev pub refusal_of : List ℕ → List ℕ → Result Refusal Why
 refusal_of code name = refusal_named name >>= refusal_with_code code

@@ -6,39 +6,30 @@ use Rattle.m3_base.specs.declared.journal.Journal.{Journal}
 use Rattle.m3_text.specs.declared.refusal.LineRefusal.{LineRefusal}
 use Rattle.m3_text.specs.declared.refusal.Why.{Why}
 use Rattle.m3_text.specs.declared.refusal.Why.TheVariants as why
-use Rattle.m3_text.specs.Refusable.{Fails}
 use Rattle.m3_script.specs.declared.script.ScriptRefusal.{ScriptRefusal}
 use Rattle.m3_script.specs.ScriptText.{Refused}
 use Rattle.m3_journal.specs.declared.reading.draft.Draft.{Draft}
 use Rattle.m3_journal.specs.Reading.Journals.{DraftValue, JournalValue}
+use Rattle.m3_script.specs.ParserView.{Refuses}
 
-abbrev pub is_form : Why → Bool
-is_form why.Form = true
-is_form why.Number = false
-is_form why.Hex = false
-is_form why.Place = false
-is_form why.Rule = false
+abbrev pub is_form_cause : Why → Bool
+is_form_cause why.Form = true
+is_form_cause why.Number = false
+is_form_cause why.Hex = false
+is_form_cause why.Place = false
+is_form_cause why.Rule = false
 
 -- whether a reader found that the words fit no form
 abbrev pub fits_no_form : Result Entry LineRefusal → Bool
 fits_no_form (Ok entry) = false
 fits_no_form (Err LineRefusal.NoMemory) = false
-fits_no_form (Err (LineRefusal.Bad why)) = is_form why
+fits_no_form (Err (LineRefusal.Bad why)) = is_form_cause why
 
 abbrev pub draft_value : Draft → DraftValue
 draft_value d = record { stage = d.stage; setup = d.setup; entries = d.entries.items; audit = d.audit.items }
 
--- a method left this, unless it refused or memory ran out
-abbrev pub Leads : Result ⊤ LineRefusal → DraftValue → Result DraftValue Why → Type 0
-Leads (Ok u) new reading = reading ≡ Ok new
-Leads (Err e) new reading = Fails e reading
-
 abbrev pub journal_value : Journal × Audit → JournalValue
 journal_value x = record { setup = x.0.setup; entries = x.0.entries.items; audit = x.1.lines.items }
-
-abbrev pub Refuses : {X : Type 0} → ScriptRefusal → Result X Refused → Type 0
-Refuses ScriptRefusal.NoMemory given = ⊤
-Refuses (ScriptRefusal.Bad line why) given = given ≡ Err (record { line = line; why = why })
 
 -- a reader gives the journal that is spelled, or names the bad line, unless memory ran out
 abbrev pub Parses : Result (Journal × Audit) ScriptRefusal → Result JournalValue Refused → Type 0

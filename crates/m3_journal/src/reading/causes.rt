@@ -2,8 +2,8 @@
 
 ghost use Rattle.std.specs.Prelude.{◌≡◌};
 ghost use Rattle.m3_text.specs.Refusable.{Gives};
-ghost use Rattle.m3_journal.specs.Outcomes.{refusal_code};
 ghost use Rattle.m3_journal.specs.Reading.Causes.{refusal_named, later_refusal_named, refusal_with_code, refusal_of, idle_of, no_of, later_no_of, file_no_of};
+ghost use Rattle.m3_journal.specs.Outcomes.{refusal_digits};
 
 use m3_base::command::Refusal;
 use m3_base::event::{IdleWhy, No};
@@ -29,7 +29,7 @@ fn with_code(code: &[u8], refusal: Refusal) -> Result<Refusal, LineRefusal>
 }
 
 fn refusal_code(refusal: Refusal) -> &'static str
-    ensures { result.now ≡ refusal_code refusal }
+    ensures { result.now ≡ refusal_digits refusal }
 {
     match refusal {
         Refusal::NoEndpoint => "1",

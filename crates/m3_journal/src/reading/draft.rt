@@ -4,7 +4,8 @@ ghost use Rattle.std.specs.Prelude.{◌≡◌};
 ghost use Rattle.m3_text.specs.Refusable.{Gives};
 ghost use Rattle.m3_journal.specs.Reading.Journals.{empty_draft, longer_setup, next_stage, draft_with_line, draft_at_stage, draft_with_machine, draft_with_setup_line, draft_with_entry, draft_with_audit_line, draft_with_content, draft_with_mark, draft_after_string};
 ghost use Rattle.m3_script.specs.ScriptText.{state_with_machine as new_setup};
-ghost use Rattle.m3_journal.specs.Reading.Refusals.{draft_value, Leads};
+ghost use Rattle.m3_journal.specs.Reading.Refusals.{draft_value};
+ghost use Rattle.m3_script.specs.ParserView.{Leads};
 
 use crate::reading::line::{Line, Words, read_line};
 use m3_base::event::Entry;

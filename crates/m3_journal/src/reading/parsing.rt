@@ -1,9 +1,9 @@
 //! Bytes as a journal.
 
 ghost use Rattle.std.specs.Prelude.{◌≡◌, ◌≤◌, length};
-ghost use Rattle.m3_script.specs.ParserView.{refusal};
+ghost use Rattle.m3_script.specs.ParserView.{refusal, Leads};
 ghost use Rattle.m3_journal.specs.Reading.Journals.{journal_of, draft_after_line, journal_of_draft};
-ghost use Rattle.m3_journal.specs.Reading.Refusals.{Parses, Leads, draft_value};
+ghost use Rattle.m3_journal.specs.Reading.Refusals.{Parses, draft_value};
 
 use crate::reading::draft::{Draft, Stage};
 use crate::reading::line::{Words, read_line};

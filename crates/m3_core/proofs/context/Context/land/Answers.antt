@@ -2,5 +2,5 @@ use Rattle.std.proofs.Common.{rules}
 use Rattle.m3_core.proofs.ReplyCreditFits.{room_joined}
 use Rattle.m3_core.proofs.context.Context.land.Goals as goal
 
-pub give-requires : goal.give-requires
-give-requires c = room_joined c.args.self.now c.join.new.self c.args.ep c.args.grant c.args.message c.join.result c.requires c.join.ensures.answer (search rules) c.join.ensures.context (search rules)
+pub return_credit-requires : goal.return_credit-requires
+return_credit-requires c = room_joined c.args.self.now c.enqueue.new.self c.args.ep c.args.grant c.args.message c.enqueue.result c.requires c.enqueue.ensures.answer (search rules) c.enqueue.ensures.context (search rules)

@@ -1,7 +1,7 @@
 use Rattle.std.proofs.Common.{arith, ◌+◌, ◌*◌, ◌<◌, ◌≡◌, ◌∷◌, ◌++◌, [], Some, None, length, true, set, subst, sym, ◌∙◌, ap}
 use Rattle.m3_base.specs.Ideal.State.{parent_in, parent_of, holder, holder_ep, undone}
 use Rattle.m3_base.specs.Ideal.GrantRules.{make_refusal, form}
-use Rattle.m3_base.specs.Setup.GrantTable.{above, with_made, IsTree, new_node, grants_of, grant_of, under_parent, one_more, has_room_under, StandsAbove}
+use Rattle.m3_base.specs.Setup.GrantTable.{above, with_made, IsTree, new_node, grants_of, grant_of, under_parent, has_room_under, StandsAbove, with_child_more}
 use Rattle.m3_base.specs.Setup.Rules.{with_grant}
 use Rattle.m3_base.proofs.GrantRefusal.{above_is}
 use Rattle.m3_base.proofs.GrantTableLookup.{length_grants}
@@ -44,8 +44,8 @@ invariant_of-self-2 c =
     let found : above gs line ≡ grant_of c.above_node-above.result = above_is gs (parent_of line) (above gs line) c.above_node-above.result at in
     let number : c.new-grant.result ≡ length gs + 1 = grind (arith, c.new-grant.ensures, c.len.ensures, length_grants nodes) in
     let form_is : form (length gs + 1) line (above gs line) ≡ Some c.in-Some.fresh = ap (form (length gs + 1) line) found ∙ (ap (λ n. form n line (grant_of c.above_node-above.result)) (sym number) ∙ (sym c.grant_record.ensures ∙ c.in-Some.is)) in
-    let plain : c.add_child.new.nodes ≡ under_parent (nodes ++ new_node line c.in-Some.fresh ∷ []) (parent_of line) one_more = grind (arith, c.add_child.ensures, c.in_ok-push.ensures.pushed, c.parent-2.ensures) in
-    let made : c.add_child.new.nodes ≡ under_parent nodes (parent_of line) one_more ++ new_node line c.in-Some.fresh ∷ [] = plain ∙ made_is c.self.inside.memory nodes line c.in-Some.fresh allowed_here form_is in
+    let plain : c.add_child.new.nodes ≡ under_parent (nodes ++ new_node line c.in-Some.fresh ∷ []) (parent_of line) with_child_more = grind (arith, c.add_child.ensures, c.in_ok-push.ensures.pushed, c.parent-2.ensures) in
+    let made : c.add_child.new.nodes ≡ under_parent nodes (parent_of line) with_child_more ++ new_node line c.in-Some.fresh ∷ [] = plain ∙ made_is c.self.inside.memory nodes line c.in-Some.fresh allowed_here form_is in
     let at_is : c.endpoint_index-at.result ≡ 16 * holder line + holder_ep line = grind (arith, c.endpoint_index-at.ensures.at, c.act.ensures, c.ep.ensures) in
     let act : holder line < 64 = grind (arith, c.endpoint_index-at.ensures.act, c.act.ensures) in
     let ep : holder_ep line < 16 = grind (arith, c.endpoint_index-at.ensures.ep, c.ep.ensures) in
@@ -63,7 +63,7 @@ returns-clause-made c =
     let found : above gs line ≡ grant_of c.above_node-above.result = above_is gs (parent_of line) (above gs line) c.above_node-above.result at in
     let number : c.new-grant.result ≡ length gs + 1 = grind (arith, c.new-grant.ensures, c.len.ensures, length_grants nodes) in
     let form_is : form (length gs + 1) line (above gs line) ≡ Some c.in-Some.fresh = ap (form (length gs + 1) line) found ∙ (ap (λ n. form n line (grant_of c.above_node-above.result)) (sym number) ∙ (sym c.grant_record.ensures ∙ c.in-Some.is)) in
-    let plain : c.add_child.new.nodes ≡ under_parent (nodes ++ new_node line c.in-Some.fresh ∷ []) (parent_of line) one_more = grind (arith, c.add_child.ensures, c.in_ok-push.ensures.pushed, c.parent-2.ensures) in
-    let made : c.add_child.new.nodes ≡ under_parent nodes (parent_of line) one_more ++ new_node line c.in-Some.fresh ∷ [] = plain ∙ made_is c.self.inside.memory nodes line c.in-Some.fresh allowed_here form_is in
+    let plain : c.add_child.new.nodes ≡ under_parent (nodes ++ new_node line c.in-Some.fresh ∷ []) (parent_of line) with_child_more = grind (arith, c.add_child.ensures, c.in_ok-push.ensures.pushed, c.parent-2.ensures) in
+    let made : c.add_child.new.nodes ≡ under_parent nodes (parent_of line) with_child_more ++ new_node line c.in-Some.fresh ∷ [] = plain ∙ made_is c.self.inside.memory nodes line c.in-Some.fresh allowed_here form_is in
     let Q : GrantTree → Type 0 = λ t. tree_of c.self.inside.memory (grants_of c.add_child.new.nodes) ≡ tree_of t.memory (with_made line t.grants) in
     subst Q c.self.view_is (ap (tree_of c.self.inside.memory) (ap grants_of made ∙ (grants_made nodes line c.in-Some.fresh ∙ ap (with_grant line gs) (sym form_is))))

@@ -1,6 +1,6 @@
 use Rattle.std.proofs.Common.{sym, ◌∙◌}
 use Rattle.m3_base.specs.Setup.GrantTable.{grants_of}
-use Rattle.m3_grants.proofs.Refusals.{refusal_of_grants}
+use Rattle.m3_base.proofs.GrantRefusalCauses.{refusal_of_grants}
 use Rattle.m3_grants.proofs.grants.Grants.refusal.Goals as goal
 
 pub refusal_of-requires : goal.refusal_of-requires

@@ -1,4 +1,5 @@
 use Rattle.m3_ideal.proofs.Seats.{Reads, nobody, seated_there, at_there}
+use Rattle.m3_ideal.proofs.Numbers.{nexts_there}
 use Rattle.m3_ideal.proofs.contexts.Contexts.free.Goals as goal
 
 pub unreachable-requires : goal.unreachable-requires
@@ -11,7 +12,12 @@ invariant_of-self c =
     let r : Reads c.self.inside.table.items c.args.self.now c.args.act c.number.result c.index_mut.result.now = record { seated = c.self.invariant; value = c.self.view_is; range = c.number.ensures.range; same = c.number.ensures.same; item = c.index_mut.ensures.value } in
     seated_there _ _ _ _ _ c.in-Some.context c.free.new.self r c.in-Some.is c.free.ensures.act
 
-pub returns : goal.returns
-returns c =
+pub returns-clause-at : goal.returns-clause-at
+returns-clause-at c =
     let r : Reads c.self.inside.table.items c.args.self.now c.args.act c.number.result c.index_mut.result.now = record { seated = c.self.invariant; value = c.self.view_is; range = c.number.ensures.range; same = c.number.ensures.same; item = c.index_mut.ensures.value } in
     at_there _ _ _ _ _ c.in-Some.context c.free.new.self _ r c.in-Some.is c.free.ensures.act (c.free.ensures.next, c.free.ensures.freed)
+
+pub returns-clause-agree : goal.returns-clause-agree
+returns-clause-agree c =
+    let r : Reads c.self.inside.table.items c.args.self.now c.args.act c.number.result c.index_mut.result.now = record { seated = c.self.invariant; value = c.self.view_is; range = c.number.ensures.range; same = c.number.ensures.same; item = c.index_mut.ensures.value } in
+    nexts_there _ _ _ _ _ c.in-Some.context c.free.new.self r c.in-Some.is c.free.ensures.act c.free.ensures.next

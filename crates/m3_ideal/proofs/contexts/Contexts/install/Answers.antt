@@ -1,4 +1,6 @@
+use Rattle.std.proofs.Common.{refl}
 use Rattle.m3_ideal.proofs.Seats.{Reads, nobody, seated_there, at_there}
+use Rattle.m3_ideal.proofs.Numbers.{nexts_there, installs_kept}
 use Rattle.m3_ideal.proofs.contexts.Contexts.install.Goals as goal
 
 pub unreachable-requires : goal.unreachable-requires
@@ -11,7 +13,17 @@ invariant_of-self c =
     let r : Reads c.self.inside.table.items c.args.self.now c.args.to c.number.result c.index_mut.result.now = record { seated = c.self.invariant; value = c.self.view_is; range = c.number.ensures.range; same = c.number.ensures.same; item = c.index_mut.ensures.value } in
     seated_there _ _ _ _ _ c.in-Some.context c.install.new.self r c.in-Some.is c.install.ensures.act
 
-pub returns : goal.returns
-returns c =
+pub returns-clause-at : goal.returns-clause-at
+returns-clause-at c =
     let r : Reads c.self.inside.table.items c.args.self.now c.args.to c.number.result c.index_mut.result.now = record { seated = c.self.invariant; value = c.self.view_is; range = c.number.ensures.range; same = c.number.ensures.same; item = c.index_mut.ensures.value } in
     at_there _ _ _ _ _ c.in-Some.context c.install.new.self _ r c.in-Some.is c.install.ensures.act (c.install.ensures.next, c.install.ensures.installs)
+
+pub returns-clause-agree : goal.returns-clause-agree
+returns-clause-agree c =
+    let r : Reads c.self.inside.table.items c.args.self.now c.args.to c.number.result c.index_mut.result.now = record { seated = c.self.invariant; value = c.self.view_is; range = c.number.ensures.range; same = c.number.ensures.same; item = c.index_mut.ensures.value } in
+    nexts_there _ _ _ _ _ c.in-Some.context c.install.new.self r c.in-Some.is c.install.ensures.act c.install.ensures.next
+
+pub returns-clause-kept : goal.returns-clause-kept
+returns-clause-kept c =
+    let r : Reads c.self.inside.table.items c.args.self.now c.args.to c.number.result c.index_mut.result.now = record { seated = c.self.invariant; value = c.self.view_is; range = c.number.ensures.range; same = c.number.ensures.same; item = c.index_mut.ensures.value } in
+    installs_kept c.install.result _ c.args.to _ _ _ _ refl (at_there _ _ _ _ _ c.in-Some.context c.install.new.self _ r c.in-Some.is c.install.ensures.act (c.install.ensures.next, c.install.ensures.installs))

@@ -1,4 +1,6 @@
+use Rattle.std.proofs.Common.{refl}
 use Rattle.m3_ideal.proofs.Seats.{Reads, nobody, seated_there, at_there}
+use Rattle.m3_ideal.proofs.Numbers.{issues_kept}
 use Rattle.m3_ideal.proofs.contexts.Contexts.issue.Goals as goal
 
 pub unreachable-requires : goal.unreachable-requires
@@ -11,7 +13,12 @@ invariant_of-self c =
     let r : Reads c.self.inside.table.items c.args.self.now c.args.act c.number.result c.index_mut.result.now = record { seated = c.self.invariant; value = c.self.view_is; range = c.number.ensures.range; same = c.number.ensures.same; item = c.index_mut.ensures.value } in
     seated_there _ _ _ _ _ c.in-Some.context c.issue.new.self r c.in-Some.is c.issue.ensures.act
 
-pub returns : goal.returns
-returns c =
+pub returns-clause-at : goal.returns-clause-at
+returns-clause-at c =
     let r : Reads c.self.inside.table.items c.args.self.now c.args.act c.number.result c.index_mut.result.now = record { seated = c.self.invariant; value = c.self.view_is; range = c.number.ensures.range; same = c.number.ensures.same; item = c.index_mut.ensures.value } in
     at_there _ _ _ _ _ c.in-Some.context c.issue.new.self _ r c.in-Some.is c.issue.ensures.act c.issue.ensures.issues
+
+pub returns-clause-kept : goal.returns-clause-kept
+returns-clause-kept c =
+    let r : Reads c.self.inside.table.items c.args.self.now c.args.act c.number.result c.index_mut.result.now = record { seated = c.self.invariant; value = c.self.view_is; range = c.number.ensures.range; same = c.number.ensures.same; item = c.index_mut.ensures.value } in
+    issues_kept c.issue.result _ c.args.act _ _ _ refl (at_there _ _ _ _ _ c.in-Some.context c.issue.new.self _ r c.in-Some.is c.issue.ensures.act c.issue.ensures.issues)
