@@ -1,7 +1,6 @@
 -- What flies at a context after a packet, and what is heard of it.
 use Rattle.std.proofs.Common.{◌≡◌, ℕ, ◌≤◌, Bool, true, false, cond, List, [], ◌∷◌, ◌++◌, length, Option, Some, None, refl, sym, ap, ◌∙◌, arith}
 use Rattle.std.specs.Prelude.{◌==◌, ◌&&◌, nat_lt}
-use Rattle.std.proofs.lemmas.Bool.Decides.{nat_tests}
 use Rattle.m3_base.specs.declared.ids.FlightId.{FlightId}
 use Rattle.m3_base.specs.declared.command.Answer.{Answer}
 use Rattle.m3_base.specs.declared.command.Refusal.{Refusal}
@@ -16,7 +15,7 @@ use Rattle.m3_model.specs.Parcel.{Heard}
 use Rattle.m3_model.specs.LocalStep.{heard_in_answer}
 use Rattle.m3_kernel.specs.ArrivalView.{answers_to}
 use Rattle.m3_kernel.specs.PendingAnswer.{IsSettled, AreNotBoth}
-use Rattle.m3_core.proofs.Positions.{command_number}
+use Rattle.m3_base.proofs.Positions.{command_number}
 
 -- what flies then
 abbrev pub flying_in : Option Arrival → List Flying
@@ -27,9 +26,6 @@ flying_in (Some r) = r.context.flying
 abbrev pub flying_after : Packet → List Flying → List Flying
 flying_after (Packet.Answer id answer) fs = without_flying id.number fs
 flying_after p fs = fs
-
-some_of : {X : Type 0} (x y : X) → Some x ≡ Some y → x ≡ y
-some_of x y e = cc
 
 taken_flying : (ep : ℕ) (m : Message) (c : Context) (b : Bool) → (m.header.flags == 0) ≡ b → (after_message ep m c).flying ≡ c.flying
 taken_flying ep m c true e = rw e refl

@@ -14,3 +14,6 @@ pub mod TableLookup
 pub mod TakeYieldAndSaved
 pub mod TendFront
 pub mod OpenedKernel
+pub mod OrderSteps
+pub mod OpeningHomes
+pub mod OpenAll

@@ -1,6 +1,6 @@
 -- A kernel as it opens, and a seat more.
 use Rattle.std.proofs.Common.{◌≡◌, ℕ, zero, suc, ◌<◌, Bool, true, false, cond, List, [], ◌∷◌, ◌++◌, length, get_or, set, replicate, Option, Some, None, refl, sym, ap, ◌∙◌, subst, arith, ⊎_elim}
-use Rattle.std.specs.Prelude.{◌==◌, ◌&&◌, ◌||◌, is_none}
+use Rattle.std.specs.Prelude.{◌==◌, ◌&&◌, ◌||◌, is_none, is_some}
 use Rattle.std.specs.List.{list_any}
 use Rattle.std.proofs.lemmas.Bool.Decides.{nat_tests}
 use Rattle.std.proofs.lemmas.Bool.{cases_eq}
@@ -19,16 +19,16 @@ use Rattle.m3_kernel.specs.KernelStateView.{KernelAt, kernel_in, at_site, IsKept
 use Rattle.m3_kernel.specs.declared.seat.Seat.{Seat as CodeSeat}
 use Rattle.m3_kernel.specs.declared.berth.Berth.{Berth}
 use Rattle.m3_kernel.specs.declared.state.State.{State}
-use Rattle.m3_kernel.proofs.UniqueElement.{only_more, only_last, any_none}
+use Rattle.m3_kernel.proofs.UniqueElement.{only_more, only_last, any_none, none_any, some_any}
 use Rattle.m3_kernel.proofs.TablesAfterChange.{berth_same, berth_other, leaving_same, elsewhere}
 use Rattle.m3_kernel.specs.StepContracts.{IsSeatOf}
-use Rattle.m3_kernel.specs.KernelQueries.{with_new_seat, HasPlaceFor}
+use Rattle.m3_kernel.specs.KernelOpening.{with_new_seat, is_taken, HasPlaceFor, resting_with}
 use Rattle.m3_kernel.proofs.FindEntry.{is_seat}
 use Rattle.m3_kernel.proofs.ReplaceEntry.{yielded_kept}
 
 -- ---- the site
 
-abbrev NoPrograms : List Home → Type 0
+abbrev pub NoPrograms : List Home → Type 0
 NoPrograms [] = Unit {0}
 NoPrograms (x ∷ xs) = (x.has_program ≡ false) × NoPrograms xs
 
@@ -53,8 +53,11 @@ all_homes : (h : Site) (ls : List SetupLine) → NoPrograms h.homes → NoProgra
 all_homes h [] all = all
 all_homes h (l ∷ ls) all = all_homes (with_home [] h l) ls (line_homes h l all)
 
+pub no_programs : (memory : ℕ) (ls : List SetupLine) → NoPrograms (site_of memory [] ls).homes
+no_programs memory ls = all_homes (record { homes = []; quantum = 8; memory = memory }) ls tt
+
 pub site_programs : (memory : ℕ) (ls : List SetupLine) (a : ℕ) → has_program (site_of memory [] ls) a ≡ false
-site_programs memory ls a = none_programmed (site_of memory [] ls).homes a (all_homes (record { homes = []; quantum = 8; memory = memory }) ls tt)
+site_programs memory ls a = none_programmed (site_of memory [] ls).homes a (no_programs memory ls)
 
 line_memory : (h : Site) (l : SetupLine) → (with_home [] h l).memory ≡ h.memory
 line_memory h (SetupLine.Act a t) = refl
@@ -257,3 +260,21 @@ module _ (s : State) (kept : IsKept s) (a : ℕ) (low : a < 64) (c : Option Cont
 
     pub seat_opened : opened_kernel (seats_of items) (yielded_of (set s.berths.items j first_berth)) ≡ with_new_seat a c (at_site s)
     seat_opened = ap (λ xs. opened_kernel xs (yielded_of (set s.berths.items j first_berth))) seats_now ∙ ap (opened_kernel (k.seats ++ new_seat a c ∷ [])) first_yielded
+
+-- ---- a place for it
+
+-- by what is kept of the tile
+pub taken_by : (k : KernelAt) (t : ℕ) (o : Option ℕ) → IsOnly (is_there_at k.site t) k.kernel.seats o → is_some o ≡ is_taken k t
+taken_by k t None only = sym (none_any (is_there_at k.site t) k.kernel.seats only)
+taken_by k t (Some i) only =
+    let own : is_number i (Some i) ≡ true = grind (arith, nat_tests) in
+    sym (some_any (is_there_at k.site t) k.kernel.seats i (only i ∙ own))
+
+-- where nobody is there, or with its context
+pub has_place : (k : KernelAt) (a t : ℕ) (c : Option Context) → tile_of k.site a ≡ t → is_some c ≡ true → HasPlaceFor k a (resting_with (is_taken k t) c)
+has_place k a t c home some = by_test (is_taken k t) refl c some
+  where
+    by_test : (b : Bool) → is_taken k t ≡ b → (c : Option Context) → is_some c ≡ true → HasPlaceFor k a (resting_with b c)
+    by_test true e None f = absurd (cc)
+    by_test true e (Some x) f = tt
+    by_test false e c f = ap (is_taken k) home ∙ e

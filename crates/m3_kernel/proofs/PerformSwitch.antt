@@ -13,9 +13,7 @@ use Rattle.m3_model.specs.Kernel.Step.{entry_of, with_entry, with_residency, lea
 use Rattle.m3_kernel.specs.ActivityView.{seat_value, seats_of, place_of, coming_from}
 use Rattle.m3_kernel.specs.LookupTables.{is_of, yielded_of, AreTables}
 use Rattle.m3_kernel.specs.KernelStateView.{kernel_in, IsKept}
-use Rattle.m3_kernel.specs.StepContracts.{Does, IsSeatOf, IsLeaver, IsSwitch}
-use Rattle.m3_core.specs.declared.parcel.Parcel.{Parcel as CodeParcel}
-use Rattle.m3_kernel.specs.declared.done.Done.{Done}
+use Rattle.m3_kernel.specs.StepContracts.{IsSeatOf, IsLeaver, IsSwitch}
 use Rattle.m3_kernel.specs.declared.seat.Place.{Place}
 use Rattle.m3_kernel.specs.declared.seat.Seat.{Seat as CodeSeat}
 use Rattle.m3_kernel.specs.declared.berth.Berth.{Berth}
@@ -25,7 +23,6 @@ use Rattle.m3_kernel.proofs.UniqueElement.{get_set, only_kept}
 use Rattle.m3_kernel.proofs.TableLookup.{seat_here, within_seats}
 use Rattle.m3_kernel.proofs.TablesAfterChange.{tables_swap}
 use Rattle.m3_kernel.proofs.ReplaceEntry.{none_out, own_place, with_seat_set, seats_set, yielded_kept}
-use Rattle.m3_kernel.proofs.StepOutcome.{said_done, says_does}
 
 -- the code's seat there is the seat there
 pub same_seat : (s : State) (at : ℕ) (seat : ActivityEntry) (x : CodeSeat) → slice_get (kernel_in s).seats at ≡ Some seat → x ≡ get_or s.seats.items at x → seat ≡ seat_value x
@@ -158,7 +155,7 @@ module _ (s : State) (kept : IsKept s) (t a : ℕ) (low : t < 16) (w : Switch) (
           step
           ∙ ap (λ q. local_result (Said.Save b.act) q ((t, Save b.act) ∷ [])) (kernel_then ∙ ap (λ xs. record k { seats = xs }) (sym seats_now) ∙ ap (λ bs. record k { seats = seats_of (set (set s.seats.items w.leaves u) w.comes v); yielded = bs }) (sym yielded_now))
 
-      pub switch_does : (done : Done) (n : ℕ) (q : CodeSeat) → q ≡ get_or s.seats.items w.leaves q → n ≡ (seat_value q).act → done ≡ said_done (Said.Save n) (Some (record { to = t; parcel = CodeParcel.Save n })) → Does done kernel_now (switch h k t (entry_of a k))
-      switch_does done n q was_q act e =
+      pub switch_orders : (n : ℕ) (q : CodeSeat) → q ≡ get_or s.seats.items w.leaves q → n ≡ (seat_value q).act → switch h k t (entry_of a k) ≡ local_result (Said.Save n) kernel_now ((t, Save n) ∷ [])
+      switch_orders n q was_q act =
           let same : n ≡ b.act = act ∙ sym (ap (λ z. z.act) (same_seat s w.leaves b q ok.leaves.here was_q)) in
-          says_does done (Said.Save n) (Some (record { to = t; parcel = CodeParcel.Save n })) kernel_now (switch h k t (entry_of a k)) e (step_is ∙ ap (λ m. local_result (Said.Save m) kernel_now ((t, Save m) ∷ [])) (sym same))
+          step_is ∙ ap (λ m. local_result (Said.Save m) kernel_now ((t, Save m) ∷ [])) (sym same)

@@ -11,7 +11,7 @@ use Rattle.m3_kernel.specs.LookupTables.{test, IsOnly, is_of, yielded_in, yielde
 use Rattle.m3_kernel.specs.declared.seat.Seat.{Seat as CodeSeat}
 use Rattle.m3_kernel.specs.declared.berth.Berth.{Berth}
 use Rattle.m3_kernel.proofs.FindEntry.{replaced_set}
-use Rattle.m3_kernel.proofs.TablesAfterChange.{number_is}
+use Rattle.m3_base.proofs.Options.{some_if_number}
 
 abbrev pub no_ready : List (List ℕ)
 no_ready = replicate 16 []
@@ -34,7 +34,7 @@ none_out t a =
 pub own_place : (h : Site) (xs : List ActivityEntry) (index : List (Option ℕ)) (berths : List Berth) → AreTables h xs index berths → (at : ℕ) (x : ActivityEntry) → slice_get xs at ≡ Some x → IsOnly (is_of x.act) xs (Some at)
 own_place h xs index berths kept at x here =
     let own : is_of x.act x ≡ true = grind (arith, nat_tests) in
-    subst (λ (o : Option ℕ). IsOnly (is_of x.act) xs o) (number_is at (get_or index x.act None) (sym (kept.places x.act at) ∙ ap (test (is_of x.act)) here ∙ own)) (kept.places x.act)
+    subst (λ (o : Option ℕ). IsOnly (is_of x.act) xs o) (some_if_number at (get_or index x.act None) (sym (kept.places x.act at) ∙ ap (test (is_of x.act)) here ∙ own)) (kept.places x.act)
 
 -- a seat in place of the one there, of its activity
 pub with_seat_set : (k : Kernel) (at : ℕ) (y : ActivityEntry) → IsOnly (is_of y.act) k.seats (Some at) → with_entry y k ≡ record k { seats = slice_set k.seats at y }

@@ -17,7 +17,8 @@ use Rattle.m3_kernel.specs.declared.seat.Seat.{Seat as CodeSeat}
 use Rattle.m3_kernel.specs.declared.berth.Berth.{Berth}
 use Rattle.m3_kernel.specs.declared.state.State.{State}
 use Rattle.m3_kernel.proofs.UniqueElement.{first_by, at_place, pick, first_only, only_here, only_beside, none_any, some_any}
-use Rattle.m3_base.proofs.Bools.{both_true}
+use Rattle.std.proofs.lemmas.Bool.{and_parts}
+use Rattle.m3_model.specs.Invariant.Scheduling.{is_placed_at}
 
 -- ---- the code's seats
 
@@ -34,20 +35,17 @@ first_due_by : (h : Site) (t : ℕ) (xs : List ActivityEntry) → first_due h t 
 first_due_by h t [] = refl
 first_due_by h t (x ∷ xs) = ap (cond (is_due_entry h t x) (Some x)) (first_due_by h t xs)
 
-abbrev pub is_placed_here : Site → ℕ → ActivityEntry → Bool
-is_placed_here h t x = (tile_of h x.act == t) && is_placed_entry x.seating
-
-placed_by : (h : Site) (t : ℕ) (xs : List ActivityEntry) → placed_at h t xs ≡ first_by (is_placed_here h t) xs
+placed_by : (h : Site) (t : ℕ) (xs : List ActivityEntry) → placed_at h t xs ≡ first_by (is_placed_at h t) xs
 placed_by h t [] = refl
-placed_by h t (x ∷ xs) = ap (cond (is_placed_here h t x) (Some x)) (placed_by h t xs)
+placed_by h t (x ∷ xs) = ap (cond (is_placed_at h t x) (Some x)) (placed_by h t xs)
 
 there_by : (h : Site) (t : ℕ) (x : ActivityEntry) (w : EntryResidency) → (tile_of h x.act == t) ≡ true → (is_placed_entry w || is_coming_entry w) ≡ true → ((tile_of h x.act == t) && (is_placed_entry w || is_coming_entry w)) ≡ true
 there_by h t x w a b = rw (a, b) refl
 
 coming_there : (h : Site) (t : ℕ) (x : ActivityEntry) → is_due_entry h t x ≡ true → is_there_at h t x ≡ true
 coming_there h t x e =
-    let k = both_true (tile_of h x.act == t) (is_coming_entry x.seating && (length x.hold == 0)) e in
-    let l = both_true (is_coming_entry x.seating) (length x.hold == 0) k.1 in
+    let k = and_parts (tile_of h x.act == t) (is_coming_entry x.seating && (length x.hold == 0)) e in
+    let l = and_parts (is_coming_entry x.seating) (length x.hold == 0) k.1 in
     there_by h t x x.seating k.0 (by_seating x.seating l.0)
   where
     by_seating : (w : EntryResidency) → is_coming_entry w ≡ true → (is_placed_entry w || is_coming_entry w) ≡ true
@@ -56,9 +54,9 @@ coming_there h t x e =
     by_seating (Is_resting y) e = absurd (cc)
     by_seating (Is_coming y) e = refl
 
-placed_there : (h : Site) (t : ℕ) (x : ActivityEntry) → is_placed_here h t x ≡ true → is_there_at h t x ≡ true
+placed_there : (h : Site) (t : ℕ) (x : ActivityEntry) → is_placed_at h t x ≡ true → is_there_at h t x ≡ true
 placed_there h t x e =
-    let k = both_true (tile_of h x.act == t) (is_placed_entry x.seating) e in
+    let k = and_parts (tile_of h x.act == t) (is_placed_entry x.seating) e in
     there_by h t x x.seating k.0 (ap (λ b. b || is_coming_entry x.seating) k.1)
 
 module _ (s : State) (kept : IsKept s) (t : ℕ) where
@@ -150,7 +148,7 @@ module _ (s : State) (kept : IsKept s) (t : ℕ) where
 
   pub leaver_nobody : berth.there ≡ None → leaver_in h t k ≡ None
   leaver_nobody g =
-      leaves_none (placed_by h t k.seats ∙ first_only (is_there_at h t) (is_placed_here h t) (placed_there h t) k.seats None (there_only None g))
+      leaves_none (placed_by h t k.seats ∙ first_only (is_there_at h t) (is_placed_at h t) (placed_there h t) k.seats None (there_only None g))
 
   pub there_here : (at : ℕ) → berth.there ≡ Some at → (x : ActivityEntry) × ((slice_get k.seats at ≡ Some x) × (is_there_at h t x ≡ true))
   there_here at g = only_here (is_there_at h t) k.seats at (there_only (Some at) g)
@@ -165,7 +163,7 @@ module _ (s : State) (kept : IsKept s) (t : ℕ) where
     pub home_here : tile_of h x.act ≡ t
     home_here =
         let e : is_there_at h t x ≡ true = ap (is_there_at h t) (sym is_it) ∙ (there_here at g).1.1 in
-        let f : (tile_of h x.act == t) ≡ true = (both_true (tile_of h x.act == t) (is_placed_entry x.seating || is_coming_entry x.seating) e).0 in
+        let f : (tile_of h x.act == t) ≡ true = (and_parts (tile_of h x.act == t) (is_placed_entry x.seating || is_coming_entry x.seating) e).0 in
         let n : tile_of h x.act ≡ t = grind (arith, nat_tests, f) in
         n
 
@@ -204,8 +202,8 @@ module _ (s : State) (kept : IsKept s) (t : ℕ) where
     placed_is : (b : Bool) → is_placed_entry x.seating ≡ b → placed_at h t k.seats ≡ cond b (Some x) None
     placed_is b d =
         placed_by h t k.seats
-        ∙ first_only (is_there_at h t) (is_placed_here h t) (placed_there h t) k.seats (Some at) (there_only (Some at) g)
-        ∙ ap (pick (is_placed_here h t)) here
+        ∙ first_only (is_there_at h t) (is_placed_at h t) (placed_there h t) k.seats (Some at) (there_only (Some at) g)
+        ∙ ap (pick (is_placed_at h t)) here
         ∙ ap (λ c. cond (c && is_placed_entry x.seating) (Some x) None) at_home
         ∙ ap (λ c. cond c (Some x) None) d
 

@@ -4,13 +4,14 @@ use Rattle.std.specs.Prelude.{slice_get, slice_set, ◌==◌, ◌&&◌, ◌||◌
 use Rattle.std.proofs.lemmas.Bool.Decides.{nat_tests}
 use Rattle.std.proofs.lemmas.Bool.{cases_eq}
 use Rattle.std.proofs.lemmas.List.{get_or-set_same, get_or-set_other, length-set}
-use Rattle.m3_base.specs.Ideal.State.{same_act, is_number}
+use Rattle.m3_base.specs.Ideal.State.{same_act}
 use Rattle.m3_model.specs.Config.Site.{Site, tile_of}
 use Rattle.m3_model.specs.Kernel.State.{SavedActivity, EntryResidency, Is_placed, Is_leaving, Is_resting, Is_coming, ActivityEntry}
 use Rattle.m3_model.specs.Kernel.Step.{is_placed_entry, is_leaving_entry, is_coming_entry, is_leaving_at}
 use Rattle.m3_kernel.specs.LookupTables.{test, IsOnly, is_of, is_there_at, empty_berth, berth_at, AreTables}
 use Rattle.m3_kernel.specs.declared.berth.Berth.{Berth}
 use Rattle.m3_kernel.proofs.UniqueElement.{get_set, only_kept, only_gained, only_lost}
+use Rattle.m3_base.proofs.Options.{some_if_number}
 
 -- it is at its tile, and no other
 pub same_tile : (h : Site) (t : ℕ) (x y : ActivityEntry) → y.act ≡ x.act → (tile_of h y.act == t) ≡ (tile_of h x.act == t)
@@ -21,10 +22,6 @@ elsewhere h t u x e ne = grind (arith, nat_tests)
 
 pub not_here : (b c d : Bool) → b ≡ false → (b && c) ≡ (b && d)
 not_here b c d e = rw e refl
-
-pub number_is : (i : ℕ) (o : Option ℕ) → is_number i o ≡ true → o ≡ Some i
-number_is i None e = absurd (cc)
-number_is i (Some j) e = let n : j ≡ i = grind (arith, nat_tests, e) in ap (λ k. Some k) n
 
 module _ (berths : List Berth) (t : ℕ) (within : t < length berths) (b : Berth) where
   pub berth_same : berth_at (slice_set berths t b) t ≡ b
@@ -90,7 +87,7 @@ module _ (h : Site) (xs : List ActivityEntry) (index : List (Option ℕ)) (berth
       left_here = let e : (tile_of h x.act == t) ≡ true = grind (arith, nat_tests, home) in rw (e, was) refl
 
       was_here : (berth_at berths t).leaving ≡ Some at
-      was_here = number_is at (berth_at berths t).leaving (sym (kept.leaving t at) ∙ ap (test (is_leaving_at h t)) here ∙ left_here)
+      was_here = some_if_number at (berth_at berths t).leaving (sym (kept.leaving t at) ∙ ap (test (is_leaving_at h t)) here ∙ left_here)
 
       not_left : (u : ℕ) → is_leaving_at h u y ≡ false
       not_left u = by_tile (tile_of h y.act == u)

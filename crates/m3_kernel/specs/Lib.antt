@@ -8,3 +8,5 @@ pub mod KernelQueries
 pub mod ActivityView
 pub mod PendingAnswer
 pub mod KernelStateView
+pub mod OrderAnswers
+pub mod KernelOpening

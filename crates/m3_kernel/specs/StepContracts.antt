@@ -1,16 +1,17 @@
 -- What the kernel's code answers, as the local steps have it.
-use Rattle.std.specs.Prelude.{◌≡◌, ℕ, ◌<◌, Bool, true, List, length, [], ◌++◌, slice_get, Option, Some, None, Result, Ok, Err, is_none, if◌then◌else◌}
+use Rattle.std.specs.Prelude.{◌≡◌, ℕ, ◌<◌, Bool, true, List, length, ◌++◌, slice_get, Option, Some, None, Result, Ok, Err, is_none, if◌then◌else◌}
 use Rattle.std.specs.List.{list_any}
 use Rattle.m3_base.specs.declared.packet.Packet.{Packet}
 use Rattle.m3_base.specs.declared.event.Said.{Said}
-use Rattle.m3_base.specs.declared.event.No.{No}
+use Rattle.m3_base.specs.Ideal.State.{Grant, grant_in, holder, holder_ep}
+use Rattle.m3_base.specs.Placement.Order.{least_closing}
 use Rattle.m3_base.specs.Placement.Routing.{target}
 use Rattle.m3_core.specs.declared.parcel.Emit.{Emit}
 use Rattle.m3_core.specs.declared.parcel.Heard.{Heard}
 use Rattle.m3_model.specs.Config.Site.{Site, tile_of}
 use Rattle.m3_model.specs.Parcel.{Parcel}
 use Rattle.m3_model.specs.Kernel.State.{SavedActivity, Is_placed, Is_leaving, Is_resting, Is_coming, ActivityEntry, Kernel}
-use Rattle.m3_model.specs.LocalStep.{LocalResult, local_result, dropped_result, closed_out}
+use Rattle.m3_model.specs.LocalStep.{LocalResult, dropped_result, closed_out}
 use Rattle.m3_model.specs.Config.KnownActivities.{is_named}
 use Rattle.m3_kernel.specs.ParcelView.{out_of}
 use Rattle.m3_model.specs.Kernel.Step.{entry_of, is_leaving_at, first_due, is_moving_at, placed_at, route_to, switch, take_data, answer_routed}
@@ -18,16 +19,30 @@ use Rattle.m3_kernel.specs.ArrivalView.{answers_to}
 use Rattle.m3_kernel.specs.ActivityView.{away_in, RemembersAnswer}
 use Rattle.m3_kernel.specs.LookupTables.{IsOnly, is_of, berth_at}
 use Rattle.m3_kernel.specs.KernelStateView.{kernel_in, CanRoute}
+use Rattle.m3_kernel.specs.OrderAnswers.{Orders, RefusesOrder}
+use Rattle.m3_kernel.specs.declared.order.Ordered.{Ordered}
+use Rattle.m3_kernel.specs.declared.order.OrderRefusal.{OrderRefusal}
 use Rattle.m3_kernel.specs.declared.state.State.{State}
+use Rattle.m3_kernel.specs.declared.state.orders.DueClose.{DueClose}
 use Rattle.m3_kernel.specs.declared.state.switch.Switch.{Switch}
 use Rattle.m3_kernel.specs.declared.state.tend.Back.{Back}
 use Rattle.m3_kernel.specs.declared.done.Done.{Done}
+
+-- what is said, whose Restore goes out with it, and what goes out
+abbrev pub done_with : Said → Option ℕ → Option Emit → Option Emit → Done
+done_with said restore first second =
+    record { outcome = record { made = None; said = said; restore = restore }; first = first; second = second }
 
 -- the answer and the kernel after it are those of the local step
 pub record Does (done : Done) (k : Kernel) (deed : LocalResult Kernel) : Type 0 where
   pub outcome : done.outcome ≡ deed.outcome
   pub part : k ≡ deed.part
   pub out : out_of done.first ++ out_of done.second ≡ deed.out
+
+-- the answer to an order, told as an event of the kernel; an error says that no memory was left
+abbrev pub TellsOrder : {E : Type 0} → Result Ordered OrderRefusal → Result Done E → Type 0
+TellsOrder answer (Ok done) = (old new : Kernel) (step : LocalResult Kernel) → Orders answer old new step → Does done new step
+TellsOrder answer (Err e) = (old new : Kernel) (step : LocalResult Kernel) → Orders answer old new step → new ≡ old
 
 -- ---- seats
 
@@ -116,9 +131,23 @@ pub record IsSwitch (s : State) (t a : ℕ) (w : Switch) : Type 0 where
   pub resting : comes.seat.seating ≡ Is_resting away
   pub home : tile_of s.site comes.seat.act ≡ t
 
-abbrev pub Judges : State → ℕ → ℕ → Result Switch No → Type 0
+abbrev pub Judges : State → ℕ → ℕ → Result Switch OrderRefusal → Type 0
 Judges s t a (Ok w) = IsSwitch s t a w
-Judges s t a (Err why) = switch s.site (kernel_in s) t (entry_of a (kernel_in s)) ≡ local_result (Said.No why) (kernel_in s) []
+Judges s t a (Err why) = RefusesOrder why (kernel_in s) (kernel_in s) (switch s.site (kernel_in s) t (entry_of a (kernel_in s)))
+
+-- ---- Closes
+
+-- the grant's Close is due next, and this is its holder's endpoint
+pub record IsDueClose (k : Kernel) (due : DueClose) : Type 0 where
+  pub made : Grant
+  pub least : least_closing k.grants 1 k.grants ≡ Some due.grant
+  pub there : grant_in k.grants due.grant ≡ Some made
+  pub act : due.act ≡ holder made.line
+  pub ep : due.ep ≡ holder_ep made.line
+
+abbrev pub DueCloseIs : Kernel → Option DueClose → Type 0
+DueCloseIs k None = least_closing k.grants 1 k.grants ≡ None
+DueCloseIs k (Some due) = IsDueClose k due
 
 -- ---- tending
 

@@ -1,21 +1,23 @@
 //! The kernel: it counts where each activity is, keeps the contexts of those that are away and what is held for them,
 //! and routes packets.
 
-ghost use Rattle.std.specs.Prelude.{◌≡◌, None, Some, true, false, IfOk, IfErr, OnOk, OnErr, option_copied, option_map, length, slice_get, []};
-ghost use Rattle.m3_base.specs.declared.order.Order.{Order};
-ghost use Rattle.m3_base.specs.Setup.Rules.{facts_of};
+ghost use Rattle.std.specs.Prelude.{◌≡◌, Some, true, IfOk, IfErr, OnErr, Err, option_copied, option_map, length, slice_get};
 ghost use Rattle.m3_kernel.specs.ParcelView.{parcel_of};
-ghost use Rattle.m3_model.specs.Config.FromSetup.{site_of};
-ghost use Rattle.m3_model.specs.Kernel.Step.{entry_of, kernel_take, kernel_tend, kernel_order};
+ghost use Rattle.m3_model.specs.Kernel.Step.{entry_of, kernel_take, kernel_tend, kernel_order, kernel_close};
 ghost use Rattle.m3_kernel.specs.ActivityView.{seats_of, place_of};
+ghost use Rattle.m3_kernel.specs.OrderAnswers.{HasNumber, HolderIsSeated, MayTakeMemory, Orders, Closes};
 ghost use Rattle.m3_kernel.specs.StepContracts.{Does};
-ghost use Rattle.m3_kernel.specs.KernelQueries.{new_kernel, with_new_seat, HasPlaceFor, hold_in, context_of_seat, is_seated, SeatIs};
+ghost use Rattle.m3_kernel.specs.declared.order.OrderRefusal.{OrderRefusal};
+ghost use Rattle.m3_kernel.specs.KernelOpening.{opened_site, opened_kernel, CanOpen, AreLeft};
+ghost use Rattle.m3_kernel.specs.KernelQueries.{hold_in, context_of_seat, is_seated, SeatIs};
 
 use crate::done::Done;
+use crate::order::{CloseSent, OrderRefusal, Ordered};
 use crate::seat::{Place, Seat};
 use crate::site::Site;
 use crate::state::State;
-use m3_base::ids::{ActId, TileId};
+use m3_base::ids::ActId;
+use m3_base::order::Order;
 use m3_base::packet::Packet;
 use m3_base::setup::Setup;
 use m3_core::context::Context;
@@ -43,29 +45,21 @@ impl Model for Kernel {
 }
 
 impl Kernel {
-    /// The kernel of a setup, before its activities have seats.
-    pub fn new(alloc: Global, setup: &Setup) -> Result<Kernel, AllocError>
-        ensures site { IfOk result (λ k. k.site ≡ site_of setup.now.memory [] setup.now.lines) }
-        ensures kernel { IfOk result (λ k. k.kernel ≡ new_kernel (facts_of setup.now).grants) }
-    {
-        let state = State::new(alloc, setup)?;
-        Ok(Kernel { state })
-    }
-
-    /// The next declared activity gets a seat, after the others. Without a context it is Placed, and is the first of its
-    /// tile; with one it rests. Want of memory changes nothing.
-    pub fn seat(
-        &mut self,
+    /// The whole kernel of a setup. Each declared activity has its seat: the first of each tile is Placed, and any other
+    /// rests with its context. These contexts are taken out of the table, which has those of the setup's opening, by the
+    /// activities' numbers; the others are left in it.
+    pub fn new(
         alloc: Global,
-        act: ActId,
-        context: Option<Context>,
-    ) -> Result<(), AllocError>
-        requires fresh { entry_of act self.old.kernel ≡ None }
-        requires place { HasPlaceFor self.old act context }
-        ensures ok { OnOk result (self.new ≡ with_new_seat act context self.old) }
-        ensures err { OnErr result (self.new ≡ self.old) }
+        setup: &Setup,
+        contexts: &mut Vec<Option<Context>>,
+    ) -> Result<Kernel, AllocError>
+        requires { CanOpen setup.now contexts.old.items }
+        ensures site { IfOk result (λ k. k.site ≡ opened_site setup.now) }
+        ensures kernel { IfOk result (λ k. k.kernel ≡ opened_kernel setup.now) }
+        ensures left { IfOk result (λ k. AreLeft k.kernel contexts.old.items contexts.new.items) }
     {
-        self.state.seat(alloc, act, context)
+        let state = State::open(alloc, setup, contexts)?;
+        Ok(Kernel { state })
     }
 
     /// Where the setup's activities have their homes.
@@ -81,6 +75,13 @@ impl Kernel {
         ensures memory { result.now.memory ≡ self.now.site.memory }
     {
         &self.state.grants
+    }
+
+    /// The number of the kernel's next packet.
+    pub fn next_number(&self) -> u32
+        ensures { result ≡ self.now.kernel.next }
+    {
+        self.state.next
     }
 
     /// The seats, in the order in which the activities were declared.
@@ -142,7 +143,7 @@ impl Kernel {
     }
 
     /// The kernel takes a parcel. One that doesn't fit is dropped, and the outcome is idle empty-link. At most one parcel
-    /// goes out. Want of memory changes nothing and gives the parcel back.
+    /// goes out. Out of memory, it changes nothing and gives the parcel back.
     pub fn take(&mut self, parcel: Parcel) -> Result<Done, (Parcel, AllocError)>
         ensures site { self.new.site ≡ self.old.site }
         ensures ok { IfOk result (λ d. Does d self.new.kernel (kernel_take self.old.site self.old.kernel (parcel_of parcel))) }
@@ -163,12 +164,28 @@ impl Kernel {
         self.state.tend(alloc, act)
     }
 
-    /// The activity is to come to the tile: Save goes to who is there. Refused where the tile isn't its home, then where
-    /// it is Placed or Coming already, then where a switch of the tile is under way.
-    pub fn switch(&mut self, tile: TileId, act: ActId) -> Done
+    /// An order is carried out: a switch, where Save goes to who is at the tile; a grant, whose Install goes to the
+    /// holder, or is held where the holder is away; or a revoke. A switch is refused where the tile isn't the activity's
+    /// home, then where it is Placed or Coming already, then where a switch of the tile is under way; it takes no memory.
+    /// After a refusal, out of memory among them, the kernel is as before.
+    pub fn order(&mut self, order: Order) -> Result<Ordered, OrderRefusal>
+        requires seated { HolderIsSeated self.old.kernel order }
+        requires number { HasNumber self.old.kernel }
         ensures site { self.new.site ≡ self.old.site }
-        ensures does { Does result self.new.kernel (kernel_order self.old.site self.old.kernel (Order.Switch tile act)) }
+        ensures orders { Orders result self.old.kernel self.new.kernel (kernel_order self.old.site self.old.kernel order) }
+        ensures memory { result ≡ Err OrderRefusal.NoMemory → MayTakeMemory order }
     {
-        self.state.switch(tile, act)
+        self.state.order(order)
+    }
+
+    /// The Close of the grant that is due goes to its holder, or is held where the holder is away. None where no grant is
+    /// due. Out of memory, it changes nothing.
+    pub fn close(&mut self) -> Result<Option<CloseSent>, AllocError>
+        requires { HasNumber self.old.kernel }
+        ensures site { self.new.site ≡ self.old.site }
+        ensures ok { IfOk result (λ r. Closes r self.new.kernel (kernel_close self.old.site self.old.kernel)) }
+        ensures err { OnErr result (self.new ≡ self.old) }
+    {
+        self.state.close()
     }
 }

@@ -6,6 +6,7 @@ pub mod berth;
 pub mod came;
 pub mod done;
 pub mod kernel;
+pub mod order;
 pub mod seat;
 pub mod site;
 mod state;

@@ -4,7 +4,7 @@ ghost use Rattle.std.specs.Prelude.{◌≡◌, ◌&&◌, ◌==◌, ◌∷◌, �
 ghost use Rattle.m3_model.specs.Kernel.State.{ActivityEntry as SeatValue, Is_placed, Is_leaving, Is_resting, Is_coming};
 ghost use Rattle.m3_model.specs.Parcel.{Restore};
 ghost use Rattle.m3_kernel.specs.ParcelView.{parcel_of};
-ghost use Rattle.m3_model.specs.Kernel.Step.{is_coming_entry};
+ghost use Rattle.m3_model.specs.Kernel.Step.{is_coming_entry, residency_of_saved};
 ghost use Rattle.m3_kernel.specs.ArrivalView.{AtMostOne};
 ghost use Rattle.m3_kernel.specs.ActivityView.{seat_value, new_seat, place_of, away_in, context_in, coming_from, deliverable_front, HasRoom, RemembersAnswer, Delivered, IsComing, Restores};
 
@@ -143,7 +143,7 @@ impl Seat {
 
     /// Its activity, which was Leaving, rests with this context.
     pub fn rest(&mut self, context: Context, ended: bool)
-        ensures { seat_value self.new ≡ record (seat_value self.old) { seating = Is_resting (record { context = context; heard = []; ended = ended }) } }
+        ensures { seat_value self.new ≡ record (seat_value self.old) { seating = residency_of_saved context ended } }
     {
         self.seating = Seating::Resting(Away::new(context, ended));
     }

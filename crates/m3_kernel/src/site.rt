@@ -133,6 +133,7 @@ impl Site {
     }
 
     /// The home tile of this activity, or none where the setup doesn't declare it.
+    #[inline(always)]
     pub fn home(&self, act: ActId) -> Option<TileId>
         ensures { result ≡ home_tile (home_of act self.now) }
     {
@@ -140,6 +141,7 @@ impl Site {
     }
 
     /// The home tile of the issuer of a flight; tile 0 where the setup doesn't declare it, as for the kernel.
+    #[inline(always)]
     pub fn tile_of(&self, issuer: u8) -> TileId
         ensures { result ≡ tile_of self.now issuer }
     {
@@ -150,6 +152,7 @@ impl Site {
     }
 
     /// Whether the setup declares the activity of this number.
+    #[inline(always)]
     pub fn declares(&self, act: u8) -> bool
         ensures { result ≡ is_home self.now act }
     {
@@ -161,6 +164,7 @@ impl Site {
 
     /// The tile that a packet goes to from where it arises: tile 1 for a read or a write, else the home of the activity
     /// that it is for.
+    #[inline(always)]
     pub fn tile_for(&self, packet: &Packet) -> TileId
         ensures { result ≡ tile_for self.now (target packet.now) }
     {

@@ -1,6 +1,7 @@
 //! The kernel's data: the seats with the tables that find them, the grants, and the number of the next packet.
 
 mod opening;
+mod orders;
 mod switch;
 mod take;
 mod tend;
@@ -40,6 +41,7 @@ pub struct State {
 
 impl State {
     /// What the table of places says of the activity of this number.
+    #[inline(always)]
     fn entry(&self, act: u8) -> Option<usize>
         ensures { result ≡ slice_index_or self.now.index.items act None }
     {
@@ -51,6 +53,7 @@ impl State {
 
     /// The place of the seat of the activity of this number.
     #[tactic(auto, using(crate::proofs::FindEntry::place_by))]
+    #[inline(always)]
     pub fn place(&self, act: u8) -> Option<usize>
         requires { IsKept self.now }
         ensures { PlaceIs (kernel_in self.now) act result }
@@ -59,6 +62,7 @@ impl State {
     }
 
     /// What is kept of a tile.
+    #[inline(always)]
     fn berth(&self, tile: TileId) -> Berth
         requires { IsKept self.now }
         ensures { result ≡ berth_at self.now.berths.items tile }
@@ -88,7 +92,8 @@ impl State {
         requires { IsKept self.old }
         ensures kept { IsKept self.new }
         ensures site { self.new.site ≡ self.old.site }
-        ensures does { Does result (kernel_in self.new) (then_restore self.old.site said tile (kernel_in self.old) (out_of first)) }
+        ensures does { Does result (kernel_in self.new)
+            (then_restore self.old.site said tile (kernel_in self.old) (out_of first)) }
     {
         match self.due(tile) {
             None => says(said, first),
@@ -118,6 +123,7 @@ impl State {
     }
 
     /// The packet goes to this seat's activity: to its tile where it is Placed, else to the back of its hold list.
+    #[inline(always)]
     fn route(&mut self, at: usize, packet: Packet) -> Option<Emit>
         requires kept { IsKept self.old }
         requires room { CanRoute self.old at }

@@ -1,42 +1,38 @@
 -- The lines that close the journal of a kept machine are those that the ideal state and the places have.
-use Rattle.std.proofs.Common.{◌≡◌, ℕ, zero, suc, ◌+◌, ◌≤◌, ◌∙◌, Bool, true, false, min, List, [], ◌∷◌, ◌++◌, length, slice_get, get_or, replicate, Option, Some, None, is_none, refl, sym, ap, subst, arith}
-use Rattle.std.specs.Prelude.{not, ◌==◌, ◌||◌, ◌&&◌, if◌then◌else◌}
+use Rattle.std.proofs.Common.{◌≡◌, ℕ, zero, suc, ◌+◌, ◌≤◌, ◌∙◌, Bool, true, false, min, List, [], ◌∷◌, ◌++◌, length, slice_get, Option, Some, None, is_none, refl, sym, ap, subst, arith}
+use Rattle.std.specs.Prelude.{not, ◌&&◌, if◌then◌else◌}
 use Rattle.std.proofs.lemmas.Bool.Decides.{nat_tests}
 use Rattle.m3_base.specs.declared.journal.AuditLine.{AuditLine}
 use Rattle.m3_base.specs.declared.event.Event.{Event}
 use Rattle.m3_base.specs.declared.packet.Fresh.{Fresh}
 use Rattle.m3_base.specs.declared.packet.Packet.{Packet}
-use Rattle.m3_base.specs.declared.order.GrantLine.{GrantLine}
-use Rattle.m3_base.specs.declared.setup_line.SetupLine.{SetupLine}
 use Rattle.m3_base.specs.Ideal.Context.{Context}
 use Rattle.m3_base.specs.Journal.Audit.{audit_lines}
 use Rattle.m3_base.specs.Placement.Driver as driver
 use Rattle.m3_base.specs.Ideal.Credits as ideal
 use Rattle.m3_base.specs.Ideal.Credits.{credits}
 use Rattle.m3_base.specs.Ideal.Acceptance.{is_form}
-use Rattle.m3_base.specs.Ideal.GrantRules.{form}
 use Rattle.m3_base.specs.Journal.Legal as legal
 use Rattle.m3_base.specs.Journal.Legal.{flights_lines}
-use Rattle.m3_base.specs.Ideal.Opening.{opening, state_with_grant, with_line, with_lines}
-use Rattle.m3_base.specs.Setup.Rules.{SetupValue}
-use Rattle.m3_base.specs.Ideal.State.{State, Standing, Live, Closing, Closed, Done, Grant, grant_in, is_live, is_done, parent_in, parent_of, context_of}
+use Rattle.m3_base.specs.Ideal.State.{State, Standing, Live, Closing, Closed, Done, Grant, grant_in, is_live, is_done, is_open}
 use Rattle.m3_endpoint.specs.Counters.{most}
-use Rattle.m3_laws.specs.Laws.{is_open, limit_of}
+use Rattle.m3_laws.specs.Laws.{limit_of}
 use Rattle.m3_laws.specs.GrantInvariant.{CreditsLawful}
 use Rattle.m3_base.specs.Lists.EachElement.{Each}
-use Rattle.m3_model.specs.Kernel.Step.{is_under_close, ready_at}
-use Rattle.m3_model.specs.Config.Site.{Home, Site}
-use Rattle.m3_model.specs.Tile.State.{Tile}
-use Rattle.m3_model.specs.Machine.{Machine, with_entries, entry_at_opening, context_or_new, joined_ready, is_there, tile_at}
+use Rattle.m3_model.specs.Kernel.Step.{is_under_close}
+use Rattle.m3_model.specs.Config.Site.{Site}
+use Rattle.m3_model.specs.Machine.{Machine}
 use Rattle.m3_model.specs.Abstraction.{ideal_of, placement_of, all_contexts, all_packets, all_closed, is_in, closed_if, closed_from}
-use Rattle.m3_machine.specs.AuditView.{SentAreShut, credit_line, live_lines_from, live_lines, held_count, flying_count, queued_count}
-use Rattle.m3_trace.specs.Invariant.{IsPristine, ConfigUnchanged, MachineInvariant}
+use Rattle.m3_machine.specs.AuditView.{credit_line, live_lines_from, live_lines, held_count, flying_count, queued_count}
+use Rattle.m3_model.specs.ShutGrants.{SentAreShut}
+use Rattle.m3_trace.specs.Invariant.{MachineInvariant}
 use Rattle.m3_trace.specs.DriverOfMachine.{tile_lines}
 use Rattle.m3_model.specs.Invariant.Structure.{CloseWasSent}
 use Rattle.m3_machine.specs.CreditCounts.{last_of, held, flying, queued}
 use Rattle.m3_machine.proofs.CreditsAreIdeal.{held_is, queued_is, flying_is}
 use Rattle.m3_trace.proofs.CountFlights.{length_by_name}
 use Rattle.m3_trace.proofs.DriverTake.{tile_lines_are}
+use Rattle.m3_refine.proofs.events.take.KernelTakesClosed.{get_closed}
 
 -- ---- credits are few
 
@@ -92,17 +88,6 @@ shut_at [] i x k e = absurd (none x e)
 shut_at (y ∷ gs) zero x k e = let same : y ≡ x = cc in subst (λ (z : Grant). z.close_sent ≡ true → is_live z.standing ≡ false) same k.0
 shut_at (y ∷ gs) (suc i) x k e = shut_at gs i x k.1 e
 
-closed_at : (ns : List ℕ) (n i : ℕ) (gs : List Grant) (x : Grant) → slice_get gs i ≡ Some x → slice_get (closed_from n ns gs) i ≡ Some (closed_if (is_in ns (n + i)) x)
-closed_at ns n i [] x e = absurd (none x e)
-  where
-    none : (x : Grant) → None ≡ Some x → ⊥
-    none x h = cc
-closed_at ns n zero (y ∷ gs) x e =
-    let same : y ≡ x = cc in
-    let here : n ≡ n + 0 = omega arith in
-    (λ k. Some (closed_if (is_in ns (here k)) (same k)))
-closed_at ns n (suc i) (y ∷ gs) x e = closed_at ns (n + 1) i gs x e ∙ ap (λ k. Some (closed_if (is_in ns k) x)) (let z : n + 1 + i ≡ n + suc i = omega arith in z)
-
 under_sent : (x : Grant) → is_under_close x ≡ true → x.close_sent ≡ true
 under_sent x e = first x.close_sent (not (is_done x.standing)) e
   where
@@ -112,7 +97,7 @@ under_sent x e = first x.close_sent (not (is_done x.standing)) e
 
 -- ---- a kept machine
 
-module _ (h : Site) (m : Machine) (kept : MachineInvariant h m) (shut : SentAreShut m.kernel.grants) where
+module _ (h : Site) (m : Machine) (kept : MachineInvariant h m) where
   abbrev cs : List Context
   cs = all_contexts m
 
@@ -136,15 +121,15 @@ module _ (h : Site) (m : Machine) (kept : MachineInvariant h m) (shut : SentAreS
     not_live : is_in (all_closed m) (1 + i) ≡ true → is_live x.standing ≡ false
     not_live b =
         let found : grant_in m.kernel.grants (1 + i) ≡ Some x = grind (arith, nat_tests, e) in
-        shut_at m.kernel.grants i x shut e (under_sent x (subst CloseWasSent found (kept.sound.shut (1 + i) b)))
+        shut_at m.kernel.grants i x kept.shut e (under_sent x (subst CloseWasSent found (kept.sound.shut (1 + i) b)))
 
     own_line : is_live its.standing ≡ true → credit_line (held_count cs ps) (flying_count cs ps) (queued_count cs ps) (1 + i) x.fresh ≡ legal.credit_line (ideal_of m) (1 + i) x.fresh
     own_line live =
-        let there = closed_at (all_closed m) 1 i m.kernel.grants x e in
+        let there = get_closed (all_closed m) 1 i m.kernel.grants x e in
         let found : grant_in (ideal_of m).grants (1 + i) ≡ Some its = grind (arith, nat_tests, there) in
-        let lawful : CreditsLawful (Some its) (credits (1 + i) (ideal_of m)) = subst (λ o. CreditsLawful o (credits (1 + i) (ideal_of m))) found (kept.law.law.lawful.credits (1 + i)) in
+        let lawful : CreditsLawful (Some its) (credits (1 + i) (ideal_of m)) = subst (λ o. CreditsLawful o (credits (1 + i) (ideal_of m))) found (kept.law.lawful.credits (1 + i)) in
         let sum : credits (1 + i) (ideal_of m) ≡ limit_of its.fresh = lawful (live_open its.standing live) in
-        let le : limit_of its.fresh ≤ 32 = form_limit its.fresh (kept.law.law.proper.grants (1 + i) its found).form in
+        let le : limit_of its.fresh ≤ 32 = form_limit its.fresh (kept.law.proper.grants (1 + i) its found).form in
         line_as (1 + i) x.fresh (omega arith)
 
   pub credits_kept : live_lines cs ps m.kernel.grants ≡ legal.credit_lines (ideal_of m)
@@ -155,20 +140,8 @@ module _ (h : Site) (m : Machine) (kept : MachineInvariant h m) (shut : SentAreS
       let same : length (ideal_of m).flights ≡ length ps = length_by_name ps in
       ap (λ n. AuditLine.Flights n ∷ []) (let z : min most (length ps) ≡ length (ideal_of m).flights = omega arith in z)
 
-  -- all lines, as the kernel knows its grants
-  pub kept_lines : (tiles : ℕ) (next : Option Event) → length (ideal_of m).flights ≤ most → next ≡ driver.next_event (ideal_of m) (placement_of h m) []
-      → live_lines cs ps m.kernel.grants ++ tile_lines tiles m.tiles ++ (AuditLine.Flights (min most (length ps)) ∷ []) ++ AuditLine.Quiet (is_none next) ∷ [] ≡ audit_lines tiles (ideal_of m) (placement_of h m) []
-  kept_lines tiles next le quiet k =
-      credits_kept k ++ sym (tile_lines_are tiles h m) k ++ flights_kept le k ++ AuditLine.Quiet (is_none (quiet k)) ∷ []
-
--- ---- a kept machine
-
-shut_of : (xs : List Grant) → Each IsPristine xs → SentAreShut xs
-shut_of [] k = tt
-shut_of (x ∷ xs) k = (λ sent. absurd (let none : x.close_sent ≡ false = k.0.unsent in cc), shut_of xs k.1)
-
-module _ (h : Site) (m : Machine) (kept : MachineInvariant h m) where
   -- the lines of a kept machine with so few flights that they are counted
   pub audited : (tiles : ℕ) (next : Option Event) → length (ideal_of m).flights ≤ most → next ≡ driver.next_event (ideal_of m) (placement_of h m) []
-      → live_lines (all_contexts m) (all_packets m) m.kernel.grants ++ tile_lines tiles m.tiles ++ (AuditLine.Flights (min most (length (all_packets m))) ∷ []) ++ AuditLine.Quiet (is_none next) ∷ [] ≡ audit_lines tiles (ideal_of m) (placement_of h m) []
-  audited tiles next le quiet = kept_lines h m kept (shut_of m.kernel.grants kept.still.grants) tiles next le quiet
+      → live_lines cs ps m.kernel.grants ++ tile_lines tiles m.tiles ++ (AuditLine.Flights (min most (length ps)) ∷ []) ++ AuditLine.Quiet (is_none next) ∷ [] ≡ audit_lines tiles (ideal_of m) (placement_of h m) []
+  audited tiles next le quiet k =
+      credits_kept k ++ sym (tile_lines_are tiles h m) k ++ flights_kept le k ++ AuditLine.Quiet (is_none (quiet k)) ∷ []

@@ -1,22 +1,21 @@
 -- Each line of a setup takes the table of contexts one step on.
-use Rattle.std.proofs.Common.{◌≡◌, ◌≢◌, ℕ, ◌+◌, ◌<◌, ◌≤◌, Bool, true, false, List, [], ◌∷◌, ◌++◌, length, length-append, get_or, set, Option, Some, None, refl, sym, ◌∙◌, ap, subst, arith, replicate, inl, inr, ⊎_elim}
-use Rattle.std.specs.Prelude.{zero, suc, if◌then◌else◌, is_none, not, ◌||◌, nat_lt, slice_get, ◌⊎◌}
+use Rattle.std.proofs.Common.{◌≡◌, ◌≢◌, ℕ, ◌+◌, ◌<◌, ◌≤◌, Bool, true, false, List, [], ◌∷◌, ◌++◌, length, get_or, set, Option, Some, None, refl, sym, ◌∙◌, ap, subst, arith, replicate, ⊎_elim}
+use Rattle.std.specs.Prelude.{not, ◌||◌, ◌⊎◌}
 use Rattle.std.specs.List.{list_any}
 use Rattle.std.proofs.lemmas.Bool.Decides.{nat_tests}
 use Rattle.std.proofs.lemmas.Bool.{cases_eq, cases_lt}
 use Rattle.std.proofs.lemmas.List.{get_or-replicate, get_or_past, length-replicate, get_or-set_other}
 use Rattle.m3_base.specs.Setup.Obligations.{Declared, LineIsOk}
 use Rattle.m3_base.specs.declared.order.GrantLine.{GrantLine}
-use Rattle.m3_base.specs.declared.packet.Perm.{Perm}
 use Rattle.m3_base.specs.declared.packet.Fresh.{Fresh}
 use Rattle.m3_base.specs.declared.setup_line.SetupLine.{SetupLine}
 use Rattle.m3_base.specs.Ideal.Context.{Endpoint, Free, Context, new_context, endpoint, new_endpoint, with_endpoint}
 use Rattle.m3_base.specs.Ideal.Acceptance.{is_form}
-use Rattle.m3_base.specs.Limits.{is_within, is_in_limits}
-use Rattle.m3_base.specs.Ideal.State.{State, Grant, context_of, put_context, new_context_in, holder, holder_ep, parent_of, parent_in, undone, is_done, grant_in}
-use Rattle.m3_base.specs.Ideal.GrantRules.{form, send_form, part_form, new_grant, holds_at, make_refusal, is_outside, fresh_of}
+use Rattle.m3_base.specs.Limits.{is_in_limits}
+use Rattle.m3_base.specs.Ideal.State.{State, Grant, context_of, put_context, new_context_in, holder, holder_ep, parent_of, parent_in, undone, grant_in}
+use Rattle.m3_base.specs.Ideal.GrantRules.{form, new_grant, holds_at, make_refusal, fresh_of}
 use Rattle.m3_base.specs.Ideal.Opening.{with_line, state_with_grant, contexts_with_record, opening}
-use Rattle.m3_base.specs.Setup.Rules.{Facts, SetupValue, IsValid, no_lines, facts_with_line, facts_with_lines, facts_of, with_grant, is_machine}
+use Rattle.m3_base.specs.Setup.Rules.{SetupValue, IsValid, no_lines, facts_with_line, facts_of, with_grant, is_machine}
 use Rattle.m3_base.proofs.SetupValidity.{grant_allowed}
 use Rattle.m3_base.proofs.SetupObligations.{Ties, obeys, ties, tied_at_first}
 use Rattle.m3_model.specs.ContextTable.{HasContexts}
@@ -26,132 +25,22 @@ use Rattle.m3_refine.proofs.bounds.RiseByOne.{token_set}
 use Rattle.m3_machine.specs.OpeningInvariant.{AreFree, AreForms, Progress, CanInstall}
 use Rattle.m3_refine.proofs.opening.ContextTable.{has_new, has_put, found_new, found_beside, found_put, found_kept}
 use Rattle.m3_laws.proofs.invariant.wellformed.StepKeeps.{has_form, outside_no}
-
--- ---- what a grant line that isn't refused says
-
--- a parent that isn't done is the parent
-pub form_undone : (g : ℕ) (line : GrantLine) (p : Option Grant) (f : Fresh) → form g line (undone p) ≡ Some f → form g line p ≡ Some f
-form_undone g (GrantLine.Recv a e slots size) p f h = h
-form_undone g (GrantLine.Range a e at len perm) p f h = h
-form_undone g (GrantLine.Send a e of label credits) None f h = absurd (cc)
-form_undone g (GrantLine.Send a e of label credits) (Some x) f h = grind (arith, h)
-form_undone g (GrantLine.Part a e of at len perm) None f h = absurd (cc)
-form_undone g (GrantLine.Part a e of at len perm) (Some x) f h = grind (arith, h)
-
-pub some_form : (o : Option Fresh) → is_none o ≡ false → (f : Fresh) × (o ≡ Some f)
-some_form None h = absurd (cc)
-some_form (Some f) h = (f, refl)
-
--- the parent's record is a form
-abbrev IsFormOf : Option Grant → Type 0
-IsFormOf None = Unit {0}
-IsFormOf (Some x) = is_form x.fresh ≡ true
-
-send_is_form : (g of label credits : ℕ) (above : GrantLine) (p f : Fresh) → is_within 1 32 credits ≡ true → is_form p ≡ true → send_form g of label credits above p ≡ Some f → is_form f ≡ true
-send_is_form g of label credits above (Fresh.Receive h slots size) f n i e = grind (arith, n, i, e)
-send_is_form g of label credits above (Fresh.Send h a b c l s m) f n i e = absurd (cc)
-send_is_form g of label credits above (Fresh.Memory h s l q) f n i e = absurd (cc)
-
-part_is_form : (g at len : ℕ) (perm : Perm) (p f : Fresh) → nat_lt 0 len ≡ true → is_form p ≡ true → ((h start extent : ℕ) (its : Perm) → p ≡ Fresh.Memory h start extent its → nat_lt extent (at + len) ≡ false) → part_form g at len perm p ≡ Some f → is_form f ≡ true
-part_is_form g at len perm (Fresh.Memory h start extent its) f n i o e = let b = o h start extent its refl in grind (arith, nat_tests, n, i, b, e)
-part_is_form g at len perm (Fresh.Receive h slots size) f n i o e = absurd (cc)
-part_is_form g at len perm (Fresh.Send h a b c l s m) f n i o e = absurd (cc)
-
-line_is_form : (memory g : ℕ) (line : GrantLine) (p : Option Grant) (f : Fresh) → memory ≤ 1048576 → is_in_limits line ≡ true → IsFormOf p → is_outside memory line (fresh_of p) ≡ false → form g line p ≡ Some f → is_form f ≡ true
-line_is_form memory g (GrantLine.Recv a e slots size) p f m n i o h = grind (arith, n, h)
-line_is_form memory g (GrantLine.Range a e at len perm) p f m n i o h = grind (arith, nat_tests, m, n, o, h)
-line_is_form memory g (GrantLine.Send a e of label credits) None f m n i o h = absurd (cc)
-line_is_form memory g (GrantLine.Send a e of label credits) (Some x) f m n i o h = send_is_form g of label credits x.line x.fresh f n i h
-line_is_form memory g (GrantLine.Part a e of at len perm) None f m n i o h = absurd (cc)
-line_is_form memory g (GrantLine.Part a e of at len perm) (Some x) f m n i o h =
-    part_is_form g at len perm x.fresh f n i (λ k start extent its w. subst (λ (y : Fresh). is_outside memory (GrantLine.Part a e of at len perm) (Some y) ≡ false) w o) h
-
-undone_form : (p : Option Grant) → IsFormOf p → IsFormOf (undone p)
-undone_form None i = tt
-undone_form (Some x) i = by_done (is_done x.standing)
-  where
-    by_done : (b : Bool) → IsFormOf (if b then None else Some x)
-    by_done true = tt
-    by_done false = i
-
--- ---- grants by number
-
-get_more : (gs : List Grant) (x y : Grant) (i : ℕ) → slice_get gs i ≡ Some y → slice_get (gs ++ x ∷ []) i ≡ Some y
-get_more [] x y i h = absurd (cc)
-get_more (z ∷ gs) x y zero h = h
-get_more (z ∷ gs) x y (suc i) h = get_more gs x y i h
-
-get_last : (gs : List Grant) (x : Grant) → slice_get (gs ++ x ∷ []) (length gs) ≡ Some x
-get_last [] x = refl
-get_last (z ∷ gs) x = get_last gs x
-
-at_number : (gs : List Grant) (g : ℕ) → grant_in gs (suc g) ≡ slice_get gs g
-at_number gs g = grind (arith, nat_tests)
-
-in_more : (gs : List Grant) (x y : Grant) (g : ℕ) → grant_in gs g ≡ Some y → grant_in (gs ++ x ∷ []) g ≡ Some y
-in_more gs x y zero h = absurd (cc)
-in_more gs x y (suc g) h = at_number (gs ++ x ∷ []) g ∙ get_more gs x y g (sym (at_number gs g) ∙ h)
-
-in_last : (gs : List Grant) (x : Grant) → grant_in (gs ++ x ∷ []) (length gs + 1) ≡ Some x
-in_last gs x = let e : length gs + 1 ≡ suc (length gs) = omega arith in ap (grant_in (gs ++ x ∷ [])) e ∙ at_number (gs ++ x ∷ []) (length gs) ∙ get_last gs x
-
-in_granted : (line : GrantLine) (gs : List Grant) (o : Option Fresh) (y : Grant) (g : ℕ) → grant_in gs g ≡ Some y → grant_in (with_grant line gs o) g ≡ Some y
-in_granted line gs None y g h = h
-in_granted line gs (Some f) y g h = in_more gs (new_grant line f) y g h
-
-in_noted : (l : SetupLine) (f : Facts) (y : Grant) (g : ℕ) → grant_in f.grants g ≡ Some y → grant_in (facts_with_line l f).grants g ≡ Some y
-in_noted (SetupLine.Act a t) f y g h = h
-in_noted (SetupLine.Quantum q) f y g h = h
-in_noted (SetupLine.Grant line) f y g h = in_granted line f.grants (form (length f.grants + 1) line (parent_in f.grants (parent_of line))) y g h
-in_noted (SetupLine.Files k) f y g h = h
-in_noted (SetupLine.Item a c) f y g h = h
-in_noted (SetupLine.AwaitItem a ep) f y g h = h
-in_noted (SetupLine.Writer a m d e chunk ring bytes) f y g h = h
-in_noted (SetupLine.Reader a m d chunk ring fuel) f y g h = h
-in_noted (SetupLine.Boxed a logic fuel) f y g h = h
-
--- a grant stays
-in_all : (ls : List SetupLine) (f : Facts) (y : Grant) (g : ℕ) → grant_in f.grants g ≡ Some y → grant_in (facts_with_lines ls f).grants g ≡ Some y
-in_all [] f y g h = h
-in_all (l ∷ ls) f y g h = in_all ls (facts_with_line l f) y g (in_noted l f y g h)
-
-cases_more : (gs : List Grant) (x y : Grant) (i : ℕ) → slice_get (gs ++ x ∷ []) i ≡ Some y → (slice_get gs i ≡ Some y) ⊎ (y ≡ x)
-cases_more [] x y zero h = inr (cc)
-cases_more [] x y (suc i) h = absurd (cc)
-cases_more (z ∷ gs) x y zero h = inl h
-cases_more (z ∷ gs) x y (suc i) h = cases_more gs x y i h
-
-forms_more : (gs : List Grant) (x : Grant) → AreForms gs → is_form x.fresh ≡ true → AreForms (gs ++ x ∷ [])
-forms_more gs x are i zero y h = absurd (cc)
-forms_more gs x are i (suc g) y h = ⊎_elim (λ old. are (suc g) y (at_number gs g ∙ old)) (λ (e : y ≡ x). subst (λ (z : Grant). is_form z.fresh ≡ true) (sym e) i) (cases_more gs x y g (sym (at_number (gs ++ x ∷ []) g) ∙ h))
+use Rattle.m3_base.proofs.ListLookups.{length_pushed}
+use Rattle.m3_base.proofs.Activities.{act_found}
+use Rattle.m3_base.proofs.GrantsByNumber.{grant_in-last}
+use Rattle.std.proofs.lemmas.Bool.{or_parts}
+use Rattle.m3_machine.proofs.GrantLines.{form_undone, some_form, IsFormOf, line_is_form, undone_form, in_all, forms_more}
+use Rattle.std.proofs.lemmas.Option.{same_Some, none-some}
 
 -- ---- contexts by activity
-
-pub found_act : (a : ℕ) (c : Context) (cs : List Context) → context_of a cs ≡ Some c → c.act ≡ a
-found_act a c [] h = absurd (cc)
-found_act a c (d ∷ ds) h = grind (arith, nat_tests, found_act a c ds)
 
 any_more : (a ep : ℕ) (gs : List Grant) (x : Grant) → list_any (holds_at a ep) (gs ++ x ∷ []) ≡ (list_any (holds_at a ep) gs || holds_at a ep x)
 any_more a ep [] x = grind arith
 any_more a ep (y ∷ gs) x = grind (arith, any_more a ep gs x)
 
-pub first_free : (a b : Bool) → (a || b) ≡ false → a ≡ false
-first_free false b e = refl
-first_free true b e = absurd (cc)
-
-pub then_free : (a b : Bool) → (a || b) ≡ false → b ≡ false
-then_free false b e = e
-then_free true b e = absurd (cc)
-
-one_longer : (gs : List Grant) (x : Grant) → length (gs ++ x ∷ []) ≡ length gs + 1
-one_longer gs x = length-append gs (x ∷ [])
-
 -- the endpoint isn't the one that the new grant has
 other_ep : (ep : ℕ) (line : GrantLine) (f : Fresh) → holds_at (holder line) ep (new_grant line f) ≡ false → ep ≢ holder_ep line
 other_ep ep line f h e = grind (arith, nat_tests, h, e)
-
-some_is : (c d : Context) → Some c ≡ Some d → c ≡ d
-some_is c d e = cc
 
 no_record : (ep : ℕ) → get_or (replicate 16 Free) ep Free ≡ Free
 no_record ep = ⊎_elim (λ low. get_or-replicate 16 ep Free Free low) (λ high. get_or_past (replicate 16 Free) ep Free (omega (arith, length-replicate 16 Free, high))) (cases_lt ep 16)
@@ -160,12 +49,6 @@ few_grants : (memory : ℕ) (gs : List Grant) (line : GrantLine) → make_refusa
 few_grants memory gs line e = grind (arith, nat_tests, e)
 
 -- ---- one line
-
-some_fresh : (f g : Fresh) → Some f ≡ Some g → f ≡ g
-some_fresh f g e = cc
-
-no_fresh : (f : Fresh) → Some f ≡ None → ⊥
-no_fresh f e = cc
 
 new_low : (a : ℕ) → HasBoundedCounters 0 (new_context a)
 new_low a = record { number = omega arith; tokens = λ ep. subst (λ (e : Endpoint). next_token_at e ≤ 0) (sym (no_record ep)) (omega arith) }
@@ -185,7 +68,7 @@ module _ (setup : SetupValue) (table : List (Option Context)) (n : ℕ) where
     act_free b ep c there none =
         ⊎_elim
         (λ (e : b ≡ a).
-        let is : new_context a ≡ c = some_is (new_context a) c (sym (found_new a (new_context a) p.state.contexts is_new.0 refl) ∙ ap (λ x. context_of x (new_context_in (new_context a) p.state.contexts)) (sym e) ∙ there) in
+        let is : new_context a ≡ c = same_Some (new_context a) c (sym (found_new a (new_context a) p.state.contexts is_new.0 refl) ∙ ap (λ x. context_of x (new_context_in (new_context a) p.state.contexts)) (sym e) ∙ there) in
         subst (λ (x : Context). endpoint x ep ≡ Free) is (no_record ep))
         (λ (ne : b ≡ a → ⊥). p.free b ep c (sym (found_beside b (new_context a) p.state.contexts ne) ∙ there) none)
         (cases_eq b a)
@@ -194,7 +77,7 @@ module _ (setup : SetupValue) (table : List (Option Context)) (n : ℕ) where
     act_low b c there =
         ⊎_elim
         (λ (e : b ≡ a).
-        let is : new_context a ≡ c = some_is (new_context a) c (sym (found_new a (new_context a) p.state.contexts is_new.0 refl) ∙ ap (λ x. context_of x (new_context_in (new_context a) p.state.contexts)) (sym e) ∙ there) in
+        let is : new_context a ≡ c = same_Some (new_context a) c (sym (found_new a (new_context a) p.state.contexts is_new.0 refl) ∙ ap (λ x. context_of x (new_context_in (new_context a) p.state.contexts)) (sym e) ∙ there) in
         subst (λ (x : Context). HasBoundedCounters 0 x) is (new_low a))
         (λ (ne : b ≡ a → ⊥). p.low b c (sym (found_beside b (new_context a) p.state.contexts ne) ∙ there))
         (cases_eq b a)
@@ -275,7 +158,7 @@ module _ (setup : SetupValue) (table : List (Option Context)) (n : ℕ) where
     after = with_endpoint before (holder_ep line) (new_endpoint fresh)
 
     act : before.act ≡ holder line
-    act = found_act (holder line) before p.state.contexts here.1
+    act = sym (act_found (holder line) before p.state.contexts here.1)
 
     pub can_install : CanInstall table (holder line) (holder_ep line) fresh
     can_install = record {
@@ -292,7 +175,7 @@ module _ (setup : SetupValue) (table : List (Option Context)) (n : ℕ) where
         ∙ in_all left (facts_with_line (SetupLine.Grant line) p.facts) (new_grant line fresh) (n + 1) (
         ap (λ o. grant_in (with_grant line p.facts.grants o) (n + 1)) formed
         ∙ ap (λ k. grant_in (p.facts.grants ++ new_grant line fresh ∷ []) (k + 1)) p.count
-        ∙ in_last p.facts.grants (new_grant line fresh)
+        ∙ grant_in-last p.facts.grants (new_grant line fresh)
         )
         )
 
@@ -323,11 +206,11 @@ module _ (setup : SetupValue) (table : List (Option Context)) (n : ℕ) where
         ⊎_elim
         (λ (e : b ≡ after.act).
         let at : b ≡ holder line = e ∙ act in
-        let is : after ≡ c = some_is after c (sym (found_put after.act after before p.state.contexts (ap (λ k. context_of k p.state.contexts) act ∙ here.1) refl) ∙ ap (λ k. context_of k (put_context after p.state.contexts)) (sym e) ∙ cs) in
-        let unheld : holds_at (holder line) ep (new_grant line fresh) ≡ false = subst (λ (k : ℕ). holds_at k ep (new_grant line fresh) ≡ false) at (then_free _ _ split) in
-        let old : endpoint before ep ≡ Free = p.free (holder line) ep before here.1 (subst (λ (k : ℕ). list_any (holds_at k ep) p.state.grants ≡ false) at (first_free _ _ split)) in
+        let is : after ≡ c = same_Some after c (sym (found_put after.act after before p.state.contexts (ap (λ k. context_of k p.state.contexts) act ∙ here.1) refl) ∙ ap (λ k. context_of k (put_context after p.state.contexts)) (sym e) ∙ cs) in
+        let unheld : holds_at (holder line) ep (new_grant line fresh) ≡ false = subst (λ (k : ℕ). holds_at k ep (new_grant line fresh) ≡ false) at (or_parts _ _ split).1 in
+        let old : endpoint before ep ≡ Free = p.free (holder line) ep before here.1 (subst (λ (k : ℕ). list_any (holds_at k ep) p.state.grants ≡ false) at (or_parts _ _ split).0) in
         subst (λ (x : Context). endpoint x ep ≡ Free) is (get_or-set_other before.endpoints (holder_ep line) ep (new_endpoint fresh) Free (other_ep ep line fresh unheld) ∙ old))
-        (λ (ne : b ≡ after.act → ⊥). p.free b ep c (sym (found_kept b after p.state.contexts ne) ∙ cs) (first_free _ _ split))
+        (λ (ne : b ≡ after.act → ⊥). p.free b ep c (sym (found_kept b after p.state.contexts ne) ∙ cs) (or_parts _ _ split).0)
         (cases_eq b after.act)
 
     opened_low : (f : Fresh) → next_token_at (new_endpoint f) ≤ 0
@@ -346,7 +229,7 @@ module _ (setup : SetupValue) (table : List (Option Context)) (n : ℕ) where
         let cs : context_of b (put_context after p.state.contexts) ≡ Some c = sym (ap (λ o. context_of b (contexts_with_record (holder_ep line) fresh p.state.contexts o)) here.1) ∙ there in
         ⊎_elim
         (λ (e : b ≡ after.act).
-        let is : after ≡ c = some_is after c (sym (found_put after.act after before p.state.contexts (ap (λ k. context_of k p.state.contexts) act ∙ here.1) refl) ∙ ap (λ k. context_of k (put_context after p.state.contexts)) (sym e) ∙ cs) in
+        let is : after ≡ c = same_Some after c (sym (found_put after.act after before p.state.contexts (ap (λ k. context_of k p.state.contexts) act ∙ here.1) refl) ∙ ap (λ k. context_of k (put_context after p.state.contexts)) (sym e) ∙ cs) in
         subst (λ (x : Context). HasBoundedCounters 0 x) is after_low)
         (λ (ne : b ≡ after.act → ⊥). p.low b c (sym (found_kept b after p.state.contexts ne) ∙ cs))
         (cases_eq b after.act)
@@ -366,7 +249,7 @@ module _ (setup : SetupValue) (table : List (Option Context)) (n : ℕ) where
       opens = p.opens;
       ends = p.ends;
       has = has_after;
-      count = ap (λ k. k + 1) p.count ∙ sym (ap length grants_after ∙ one_longer p.facts.grants (new_grant line fresh));
+      count = ap (λ k. k + 1) p.count ∙ sym (ap length grants_after ∙ length_pushed p.facts.grants (new_grant line fresh));
       free = subst (λ (s : State). AreFree s) (sym state_after) still_free;
       forms = subst (λ (gs : List Grant). AreForms gs) (sym grants_after) (forms_more p.facts.grants (new_grant line fresh) p.forms is_fresh);
       low = subst (λ (s : State). (b : ℕ) (c : Context) → context_of b s.contexts ≡ Some c → HasBoundedCounters 0 c) (sym state_after) still_low;
@@ -377,7 +260,7 @@ module _ (setup : SetupValue) (table : List (Option Context)) (n : ℕ) where
     -- as the setup tells the record
     module _ (f : Fresh) (told : fresh_of (grant_in (facts_of setup).grants (n + 1)) ≡ Some f) where
       same_fresh : fresh ≡ f
-      same_fresh = some_fresh fresh f (sym is_granted ∙ told)
+      same_fresh = same_Some fresh f (sym is_granted ∙ told)
 
       pub installs : CanInstall table (holder line) (holder_ep line) f
       installs = subst (λ (x : Fresh). CanInstall table (holder line) (holder_ep line) x) same_fresh can_install
@@ -387,7 +270,7 @@ module _ (setup : SetupValue) (table : List (Option Context)) (n : ℕ) where
           subst (λ (t : List (Option Context)). Progress setup t (n + 1) left) (ap (λ x. set table (holder line) (Some (with_endpoint before (holder_ep line) (new_endpoint x)))) same_fresh ∙ sym (is before (p.has.same (holder line) ∙ here.1))) grant_step
 
     pub always_told : fresh_of (grant_in (facts_of setup).grants (n + 1)) ≡ None → ⊥
-    always_told none = no_fresh fresh (sym is_granted ∙ none)
+    always_told none = none-some fresh (sym none ∙ is_granted)
 
   -- a line that declares no activity and makes no grant
   abbrev pub IsOther : SetupLine → Type 0

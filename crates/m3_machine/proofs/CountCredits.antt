@@ -1,16 +1,17 @@
 -- Contexts and packets are counted one after the other.
 use Rattle.std.proofs.Common.{◌≡◌, ℕ, zero, suc, ◌+◌, ◌&&◌, ◌∙◌, min, List, [], ◌∷◌, ◌++◌, length, get_or, replicate, Option, None, refl, sym, ap, subst, arith}
 use Rattle.std.proofs.lemmas.List.{length-replicate}
+use Rattle.std.specs.Borrow.{Bor}
 use Rattle.m3_base.specs.declared.packet.Packet.{Packet}
 use Rattle.m3_base.specs.Ideal.Context.{Context}
 use Rattle.m3_base.specs.Lists.Counting.{total, one}
 use Rattle.m3_base.specs.Ideal.Credits.{held_at, queued_at, queued_credits, is_refusal, gives_back_in}
 use Rattle.m3_endpoint.specs.Counters.{most, Adds}
 use Rattle.m3_endpoint.proofs.CounterSums.{adds_none, adds_same, adds_both}
-use Rattle.m3_machine.specs.declared.tally.Tally.{Tally}
-use Rattle.m3_machine.specs.CreditCounts.{last_of, carries, held, flying, queued, Counts}
-use Rattle.m3_machine.specs.AuditView.{AreCounts, IsTally}
-use Rattle.m3_refine.proofs.lists.Update.{how_many-append}
+use Rattle.m3_machine.specs.CreditCounts.{last_of, carries, held, flying, queued, Counts, listed, CountsBy}
+use Rattle.m3_machine.specs.AuditView.{AreCounts, AreCreditsOf}
+use Rattle.m3_base.proofs.Counting.{how_many-append}
+use Rattle.m3_machine.specs.declared.credit_counts.CreditCounts.{CreditCounts}
 
 total-append : {X : Type 0} (f : X → ℕ) (xs ys : List X) → total f (xs ++ ys) ≡ total f xs + total f ys
 total-append f [] ys = omega arith
@@ -21,10 +22,10 @@ held_both g cs ds ps qs =
     let a = total-append (λ (c : Context). total (held_at g) c.endpoints) cs ds in let b = total-append (queued_credits g) ps qs in omega arith
 
 module _ (find : ℕ → Option Context) where
-  pub counts_none : (t : Tally) → Counts find [] [] t t
+  pub counts_none : (t : CreditCounts) → Counts find [] [] t t
   counts_none t = record { held_is = adds_none t.held.items; flying_is = adds_none t.flying.items; queued_is = adds_none t.queued.items }
 
-  pub counts_both : (cs ds : List Context) (ps qs : List Packet) (a b c : Tally) → Counts find cs ps a b → Counts find ds qs b c → Counts find (cs ++ ds) (ps ++ qs) a c
+  pub counts_both : (cs ds : List Context) (ps qs : List Packet) (a b c : CreditCounts) → Counts find cs ps a b → Counts find ds qs b c → Counts find (cs ++ ds) (ps ++ qs) a c
   counts_both cs ds ps qs a b c j k = record {
     held_is = adds_same (λ g. held g cs ps + held g ds qs) (λ g. held g (cs ++ ds) (ps ++ qs)) a.held.items c.held.items (λ g. sym (held_both g cs ds ps qs))
         (adds_both (λ g. held g cs ps) (λ g. held g ds qs) a.held.items b.held.items c.held.items j.held_is k.held_is);
@@ -34,19 +35,14 @@ module _ (find : ℕ → Option Context) where
         (adds_both (λ g. queued g cs) (λ g. queued g ds) a.queued.items b.queued.items c.queued.items j.queued_is k.queued_is);
   }
 
-  -- ---- one part after the other
+-- ---- by a table that stays
 
-  -- when the rest is counted beside what there is now, the whole is counted beside what there was first
-  abbrev pub LeftOf : (cs : List Context) (ps : List Packet) (rest : List Context) (left : List Packet) (first now : Tally) → Type 0
-  LeftOf cs ps rest left first now = (last : Tally) → Counts find rest left now last → Counts find cs ps first last
+module _ (table : List (Option (Bor Context))) where
+  pub counts_by_none : (t : CreditCounts) → CountsBy [] [] table table t t
+  counts_by_none t = (refl, counts_none (listed table) t)
 
-  pub counted : (cs rest xs ys : List Context) (ps left us vs : List Packet) (first now next : Tally) → rest ≡ xs ++ ys → left ≡ us ++ vs → LeftOf cs ps rest left first now → Counts find xs us now next → LeftOf cs ps ys vs first next
-  counted cs rest xs ys ps left us vs first now next e d l step last k =
-      l last (subst (λ (x : List Context). Counts find x left now last) (sym e) (subst (λ (u : List Packet). Counts find (xs ++ ys) u now last) (sym d) (counts_both xs ys us vs now next last step k)))
-
-  pub counted_all : (cs rest : List Context) (ps left : List Packet) (first now : Tally) → rest ≡ [] → left ≡ [] → LeftOf cs ps rest left first now → Counts find cs ps first now
-  counted_all cs rest ps left first now e d l =
-      l now (subst (λ (x : List Context). Counts find x left now now) (sym e) (subst (λ (u : List Packet). Counts find [] u now now) (sym d) (counts_none now)))
+pub counts_by_both : (cs ds : List Context) (ps qs : List Packet) (t u v : List (Option (Bor Context))) (a b c : CreditCounts) → CountsBy cs ps t u a b → CountsBy ds qs u v b c → CountsBy (cs ++ ds) (ps ++ qs) t v a c
+counts_by_both cs ds ps qs t u v a b c j k = (k.0 ∙ j.0, counts_both (listed t) cs ds ps qs a b c j.1 (subst (λ (w : List (Option (Bor Context))). Counts (listed w) ds qs b c) j.0 k.1))
 
 -- ---- all parts
 
@@ -80,8 +76,8 @@ counts_all f h old new e same k =
           ∙ ap (min most) (let q : 0 + f g ≡ f g = omega arith in q ∙ same g);
     }
 
-pub tallied : (find : ℕ → Option Context) (cs : List Context) (ps : List Packet) (first last : Tally) → first.held.items ≡ replicate 4097 0 → first.flying.items ≡ replicate 4097 0 → first.queued.items ≡ replicate 4097 0
-    → ((a : ℕ) → find a ≡ last_of None a cs) → Counts find cs ps first last → IsTally cs ps last
+pub tallied : (find : ℕ → Option Context) (cs : List Context) (ps : List Packet) (first last : CreditCounts) → first.held.items ≡ replicate 4097 0 → first.flying.items ≡ replicate 4097 0 → first.queued.items ≡ replicate 4097 0
+    → ((a : ℕ) → find a ≡ last_of None a cs) → Counts find cs ps first last → AreCreditsOf cs ps last
 tallied find cs ps first last h f q found k = record {
   held_are = counts_all (λ g. held g cs ps) (λ g. held g cs ps) first.held.items last.held.items h (λ g. refl) k.held_is;
   flying_are = counts_all (λ g. flying g find ps) (λ g. flying g (λ a. last_of None a cs) ps) first.flying.items last.flying.items f (λ g. flying_same find (λ a. last_of None a cs) found g ps) k.flying_is;

@@ -10,28 +10,28 @@ use Rattle.m3_base.specs.Ideal.Context.{Context}
 use Rattle.m3_base.specs.Ideal.State.{Grant, grant_in, is_live}
 use Rattle.m3_endpoint.specs.Counters.{most}
 use Rattle.m3_machine.specs.CreditCounts.{last_of, held, flying, queued}
-use Rattle.m3_machine.specs.declared.tally.Tally.{Tally}
-use Rattle.m3_machine.specs.AuditView.{credit_line, live_lines_from, live_line, tally_lines, live_lines, IsTally}
+use Rattle.m3_machine.specs.declared.credit_counts.CreditCounts.{CreditCounts}
+use Rattle.m3_machine.specs.AuditView.{credit_line, live_lines_from, live_line, counts_lines, live_lines, AreCreditsOf}
 
 -- ---- one grant more
 
 -- the tail from the place i on, whose first grant has the number g
-tail_more : (t : Tally) (gs : List Grant) (i g : ℕ) → tally_lines t g (drop i gs) ≡ live_line t g (slice_get gs i) ++ tally_lines t (g + 1) (drop (suc i) gs)
+tail_more : (t : CreditCounts) (gs : List Grant) (i g : ℕ) → counts_lines t g (drop i gs) ≡ live_line t g (slice_get gs i) ++ counts_lines t (g + 1) (drop (suc i) gs)
 tail_more t [] zero g = refl
-tail_more t [] (suc i) g = sym (ap (tally_lines t (g + 1)) (drop_of_length-le {A = Grant} [] (let le : 0 ≤ suc (suc i) = omega arith in le)))
+tail_more t [] (suc i) g = sym (ap (counts_lines t (g + 1)) (drop_of_length-le {A = Grant} [] (let le : 0 ≤ suc (suc i) = omega arith in le)))
 tail_more t (x ∷ gs) zero g = refl
 tail_more t (x ∷ gs) (suc i) g = tail_more t gs i g
 
-pub lines_more : (t : Tally) (gs : List Grant) (g : ℕ) → 1 ≤ g → tally_lines t g (drop (g - 1) gs) ≡ live_line t g (grant_in gs g) ++ tally_lines t (g + 1) (drop (g + 1 - 1) gs)
+pub lines_more : (t : CreditCounts) (gs : List Grant) (g : ℕ) → 1 ≤ g → counts_lines t g (drop (g - 1) gs) ≡ live_line t g (grant_in gs g) ++ counts_lines t (g + 1) (drop (g + 1 - 1) gs)
 lines_more t gs zero le = absurd (omega arith)
 lines_more t gs (suc i) le =
     let at : slice_get gs i ≡ grant_in gs (suc i) = grind (arith, nat_tests) in
     let here : suc i - 1 ≡ i = omega arith in
     let next : suc i ≡ suc i + 1 - 1 = omega arith in
-    ap (λ n. tally_lines t (suc i) (drop n gs)) here
+    ap (λ n. counts_lines t (suc i) (drop n gs)) here
     ∙ tail_more t gs i (suc i)
-    ∙ ap (λ o. live_line t (suc i) o ++ tally_lines t (suc i + 1) (drop (suc i) gs)) at
-    ∙ ap (λ n. live_line t (suc i) (grant_in gs (suc i)) ++ tally_lines t (suc i + 1) (drop n gs)) next
+    ∙ ap (λ o. live_line t (suc i) o ++ counts_lines t (suc i + 1) (drop (suc i) gs)) at
+    ∙ ap (λ n. live_line t (suc i) (grant_in gs (suc i)) ++ counts_lines t (suc i + 1) (drop n gs)) next
 
 pub line_joined : (all new old tail next line : List AuditLine) → all ≡ old ++ tail → tail ≡ line ++ next → new ≡ old ++ line → all ≡ new ++ next
 line_joined all new old tail next line e f g = e ∙ ap (λ l. old ++ l) f ∙ sym (append_assoc old line next) ∙ ap (λ l. l ++ next) (sym g)
@@ -58,11 +58,11 @@ module _ (h f q k e p : ℕ → ℕ) (most : ℕ) (held : (g : ℕ) → g < most
 
 -- ---- all lines
 
-pub tally_is : (t : Tally) (cs : List Context) (ps : List Packet) (gs : List Grant) → IsTally cs ps t → length gs ≤ 4096 → tally_lines t 1 gs ≡ live_lines cs ps gs
-tally_is t cs ps gs is few =
+pub counts_are : (t : CreditCounts) (cs : List Context) (ps : List Packet) (gs : List Grant) → AreCreditsOf cs ps t → length gs ≤ 4096 → counts_lines t 1 gs ≡ live_lines cs ps gs
+counts_are t cs ps gs is few =
     lines_same (λ g. get_or t.held.items g 0) (λ g. get_or t.flying.items g 0) (λ g. get_or t.queued.items g 0)
     (λ g. min most (held g cs ps)) (λ g. min most (flying g (λ a. last_of None a cs) ps)) (λ g. min most (queued g cs)) 4097
     is.held_are.same is.flying_are.same is.queued_are.same gs 1 (omega arith)
 
-pub lines_end : (t : Tally) (gs : List Grant) (n : ℕ) → length gs < n → (lines : List AuditLine) → lines ++ tally_lines t n (drop (n - 1) gs) ≡ lines
-lines_end t gs n past lines = ap (λ xs. lines ++ tally_lines t n xs) (drop_of_length-le gs (let le : length gs ≤ n - 1 = omega arith in le)) ∙ append-nil lines
+pub lines_end : (t : CreditCounts) (gs : List Grant) (n : ℕ) → length gs < n → (lines : List AuditLine) → lines ++ counts_lines t n (drop (n - 1) gs) ≡ lines
+lines_end t gs n past lines = ap (λ xs. lines ++ counts_lines t n xs) (drop_of_length-le gs (let le : length gs ≤ n - 1 = omega arith in le)) ∙ append-nil lines

@@ -4,15 +4,14 @@ use Rattle.std.specs.Prelude.{if◌then◌else◌}
 use Rattle.std.proofs.lemmas.Bool.Decides.{nat_tests}
 use Rattle.m3_base.specs.declared.packet.Packet.{Packet}
 use Rattle.m3_base.specs.Ideal.Context.{Context}
-use Rattle.m3_base.specs.Ideal.Flights.{name_of, same_name, name_before}
-use Rattle.m3_base.specs.Ideal.State.{act_of, act_before, same_act, context_of}
+use Rattle.m3_base.specs.Ideal.Flights.{name_of, same_name, name_before, sorted_by_name}
+use Rattle.m3_base.specs.Ideal.State.{act_of, act_before, same_act, context_of, DistinctActs}
 use Rattle.m3_base.specs.Lists.Counting.{total, one, how_many}
-use Rattle.m3_base.specs.Ideal.Credits.{held_at, queued_at, queued_credits, is_refusal, gives_back_in}
+use Rattle.m3_base.specs.Ideal.Credits.{held_at, queued_at, queued_credits}
 use Rattle.m3_base.specs.Ideal.Credits as ideal
 use Rattle.m3_base.proofs.KeyedList.{total-inserted, how_many-inserted}
-use Rattle.m3_model.specs.Abstraction.{ideal_of, sorted_by_act, sorted_by_name, all_contexts, all_packets}
+use Rattle.m3_model.specs.Abstraction.{ideal_of, sorted_by_act, all_contexts, all_packets}
 use Rattle.m3_model.specs.Machine.{Machine}
-use Rattle.m3_model.specs.Invariant.Distinct.{DistinctActs}
 use Rattle.m3_machine.specs.CreditCounts.{last_of, carries, held, flying, queued}
 use Rattle.m3_refine.proofs.abstraction.FindActor.{apart-by_act}
 use Rattle.m3_refine.proofs.opening.ContextTable.{found_new, found_beside}

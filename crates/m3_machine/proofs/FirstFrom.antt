@@ -1,5 +1,5 @@
 -- The first tile from one on for which there is an event.
-use Rattle.std.proofs.Common.{◌≡◌, ℕ, zero, suc, ◌+◌, ◌-◌, ◌<◌, ◌≤◌, List, [], ◌∷◌, Option, Some, None, ap, arith, refl, sym, ◌∙◌, true, false, is_some}
+use Rattle.std.proofs.Common.{◌≡◌, ℕ, zero, suc, ◌+◌, ◌-◌, ◌<◌, ◌≤◌, List, [], ◌∷◌, Option, Some, None, ap, arith, refl, sym, ◌∙◌, true, false}
 use Rattle.std.proofs.lemmas.Bool.{false≢true}
 use Rattle.m3_base.specs.declared.event.Event.{Event}
 use Rattle.m3_base.specs.Placement.Driver.{first_for, first_some}
@@ -41,14 +41,6 @@ module _ (f : ℕ → Option Event) (t : ℕ) where
   pub none_left : 16 ≤ t → first_from f t ≡ None
   unfolding first_from
   none_left le = ap (λ ts. first_for ts f) (up_end t le)
-
-pub is_nothing : {X : Type 0} (o : Option X) → is_some o ≡ false → o ≡ None
-is_nothing None e = refl
-is_nothing (Some x) e = absurd (false≢true (sym e))
-
-pub is_something : {X : Type 0} (o : Option X) → is_some o ≡ true → (x : X) × (o ≡ Some x)
-is_something (Some x) e = (x, refl)
-is_something None e = absurd (false≢true e)
 
 module _ {X : Type 0} where
   pub at_first : (links : List (List X)) (to : ℕ) → next_take_at links to ≡ first_from (take_on links to) 0

@@ -1,14 +1,15 @@
 -- A machine's journal grows by an entry with each step of its engine.
-use Rattle.std.proofs.Common.{◌≡◌, ◌<◌, ◌≤◌, ◌++◌, ◌∷◌, [], List, length, None, Some, refl, sym, ap, subst, ◌∙◌}
+use Rattle.std.proofs.Common.{◌≡◌, ◌<◌, ◌≤◌, ◌++◌, ◌∷◌, [], List, length, map, None, Some, refl, sym, ap, subst, ◌∙◌}
 use Rattle.m3_base.specs.declared.event.Event.{Event}
 use Rattle.m3_base.specs.declared.event.Entry.{Entry}
 use Rattle.m3_base.specs.declared.event.Outcome.{Outcome}
 use Rattle.m3_base.specs.declared.order.Order.{Order}
+use Rattle.m3_base.specs.Ideal.State.{holder}
 use Rattle.m3_base.specs.Setup.Rules.{SetupValue, IsValid}
 use Rattle.m3_model.specs.Abstraction.{ideal_of, placement_of}
 use Rattle.m3_model.specs.Events.{IsOfSetup, IsServed, IsWithin}
-use Rattle.m3_model.specs.Machine.{Machine, machine_step}
-use Rattle.m3_model.specs.Config.Site.{Site}
+use Rattle.m3_model.specs.Machine.{machine_step}
+use Rattle.m3_model.specs.Config.Site.{Site, home_act}
 use Rattle.m3_trace.specs.Invariant.{StepRefines}
 use Rattle.m3_trace.specs.Opening.{site, entry}
 use Rattle.m3_trace.specs.Trace.{IsTrace}
@@ -23,15 +24,21 @@ pub of_setup : (s : SetupValue) → IsValid s → (e : Event) → NamesActs s e 
 of_setup s v (Event.Do a c) n = declared_home s v a n
 of_setup s v (Event.Tend a) n = declared_home s v a n
 of_setup s v (Event.Order (Order.Switch t a)) n = declared_home s v a n
-of_setup s v (Event.Order (Order.Grant line)) n = tt
+of_setup s v (Event.Order (Order.Grant line)) n = (declared_home s v (holder line) n.0, n.1)
 of_setup s v (Event.Order (Order.Revoke g)) n = tt
 of_setup s v (Event.Turn a) n = tt
 of_setup s v (Event.Take to from) n = tt
 of_setup s v Event.Close n = tt
 of_setup s v (Event.File l) n = tt
 
-pub can_make : (s : SetupValue) (es : List Entry) (m : Machine) → IsTrace s es m → CanMake m
-can_make s es m trace = record { entries = length es; few = trace.few; low = trace.low }
+pub can_make : (s : SetupValue) (es : List Entry) (e : EngineAt) → e.site ≡ site s → IsTrace s es e.machine → CanMake e
+can_make s es e here trace = record {
+  entries = length es;
+  few = trace.few;
+  low = trace.low;
+  number = trace.number;
+  seats = trace.ran.kept.sound.housed.seats ∙ sym (ap (λ (h : Site). map home_act h.homes) here);
+}
 
 module _ (s : SetupValue) (old new : EngineAt) (es now : List Entry) (e : Event) (o : Outcome) (here : old.site ≡ site s) (trace : IsTrace s es old.machine) (room : length es < 2097152)
     (own : NamesActs s e) (within : IsWithin e) (served : IsServed e) (makes : Makes old e o new) (added : now ≡ es ++ entry e o ∷ []) where

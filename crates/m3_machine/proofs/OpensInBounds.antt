@@ -3,11 +3,9 @@ use Rattle.std.proofs.Common.{◌≡◌, ℕ, zero, suc, List, [], ◌∷◌, ge
 use Rattle.m3_base.specs.Lists.EachElement.{Each}
 use Rattle.m3_merge.proofs.MergedIsRun.{each_append}
 use Rattle.m3_base.specs.declared.setup_line.SetupLine.{SetupLine}
-use Rattle.m3_base.specs.declared.packet.Fresh.{Fresh}
-use Rattle.m3_base.specs.declared.order.GrantLine.{GrantLine}
 use Rattle.m3_base.specs.Ideal.Context.{Context}
 use Rattle.m3_base.specs.Ideal.State.{State, context_of}
-use Rattle.m3_base.specs.Ideal.Opening.{opening, state_with_grant, with_line, with_lines}
+use Rattle.m3_base.specs.Ideal.Opening.{opening, with_line, with_lines}
 use Rattle.m3_base.specs.Setup.Rules.{SetupValue, IsValid}
 use Rattle.m3_model.specs.Config.Site.{Home}
 use Rattle.m3_model.specs.Tile.State.{Tile}
@@ -18,32 +16,14 @@ use Rattle.m3_trace.specs.Opening.{site, opened_by_setup}
 use Rattle.m3_refine.proofs.lists.EachElement.{each_read, each_write}
 use Rattle.m3_refine.proofs.opening.OpensRefines.{first_machine}
 use Rattle.m3_trace.proofs.ValidSetup.{valid_seated}
+use Rattle.m3_base.proofs.MemorySize.{memory-with_lines}
 
 -- ---- the memory
-
-granted_memory : (s : State) (line : GrantLine) (o : Option Fresh) → (state_with_grant s line o).memory ≡ s.memory
-granted_memory s line None = refl
-granted_memory s line (Some f) = refl
-
-line_memory : (s : State) (l : SetupLine) → (with_line s l).memory ≡ s.memory
-line_memory s (SetupLine.Act a t) = refl
-line_memory s (SetupLine.Grant line) = granted_memory s line _
-line_memory s (SetupLine.Quantum q) = refl
-line_memory s (SetupLine.Files g) = refl
-line_memory s (SetupLine.Item a c) = refl
-line_memory s (SetupLine.AwaitItem a e) = refl
-line_memory s (SetupLine.Writer a m d e c r b) = refl
-line_memory s (SetupLine.Reader a m d c r f) = refl
-line_memory s (SetupLine.Boxed a x f) = refl
-
-lines_memory : (s : State) (ls : List SetupLine) → (with_lines s ls).memory ≡ s.memory
-lines_memory s [] = refl
-lines_memory s (l ∷ ls) = lines_memory (with_line s l) ls ∙ line_memory s l
 
 pub opened_memory : (s : SetupValue) → IsValid s → (opened_by_setup s).memory ≡ replicate s.memory 0
 opened_memory s valid =
     (valid_seated s valid).memory
-    ∙ lines_memory (record { memory = replicate s.memory 0; contexts = []; flights = []; kernel_next = 1; grants = [] }) s.lines
+    ∙ memory-with_lines (record { memory = replicate s.memory 0; contexts = []; flights = []; kernel_next = 1; grants = [] }) s.lines
 
 -- ---- numbers
 

@@ -1,10 +1,13 @@
 -- A machine's step from that of one of its parts, and what goes onto its links.
-use Rattle.std.proofs.Common.{◌≡◌, ℕ, zero, suc, ◌+◌, ◌*◌, ◌<◌, ◌≤◌, Bool, true, false, List, [], ◌∷◌, ◌++◌, length, map, drop, get_or, set, Option, Some, None, refl, sym, ap, ◌∙◌, subst, arith, ⊎_elim}
+use Rattle.std.proofs.Common.{◌≡◌, ℕ, zero, suc, ◌+◌, ◌*◌, ◌<◌, ◌≤◌, Bool, true, false, List, [], ◌∷◌, ◌++◌, length, map, drop, get_or, set, Option, Some, None, Result, Ok, Err, IfOk, OnErr, refl, sym, ap, ◌∙◌, subst, arith, ⊎_elim}
 use Rattle.std.specs.Prelude.{if◌then◌else◌, ◌==◌, is_some}
 use Rattle.std.proofs.lemmas.List.{get_or-set_same, set-set, get_or_past, get_or_default, map-set, map-append, set-get_or}
 use Rattle.std.proofs.lemmas.Bool.{cases_lt}
 use Rattle.std.proofs.lemmas.Bool.Decides.{nat_tests}
 use Rattle.m3_base.specs.declared.command.Command.{Command}
+use Rattle.m3_base.specs.declared.order.Order.{Order}
+use Rattle.m3_base.specs.Ideal.State.{holder, same_act}
+use Rattle.m3_base.specs.Lists.Keyed as keyed
 use Rattle.m3_base.specs.declared.event.Event.{Event}
 use Rattle.m3_base.specs.declared.event.IdleWhy.{IdleWhy}
 use Rattle.m3_base.specs.declared.event.Said.{Said}
@@ -13,8 +16,10 @@ use Rattle.m3_base.specs.Ideal.Context.{Context, Endpoint, Free, Sends, Receives
 use Rattle.m3_core.specs.declared.parcel.Emit.{Emit}
 use Rattle.m3_core.specs.declared.parcel.Parcel.{Parcel as CodeParcel}
 use Rattle.m3_link.specs.LinkOps.{place, list_at, with_pushed, with_popped, first, put_back}
-use Rattle.m3_model.specs.Config.Site.{Site, Home, home_of, tile_of, tile_in}
-use Rattle.m3_model.specs.Kernel.State.{Kernel}
+use Rattle.m3_model.specs.Config.Site.{Site, Home, home_act, home_of, tile_of, tile_in}
+use Rattle.m3_model.specs.Events.{IsOfSetup}
+use Rattle.m3_model.specs.Kernel.State.{ActivityEntry, Kernel}
+use Rattle.m3_model.specs.Kernel.Step.{entry_act, kernel_order}
 use Rattle.m3_model.specs.Parcel.{Parcel}
 use Rattle.m3_model.specs.Tile.State.{Tile}
 use Rattle.m3_model.specs.LocalStep.{LocalResult, idle_result}
@@ -30,6 +35,9 @@ use Rattle.m3_kernel.specs.ParcelView.{parcel_of, parcels_of, out_of}
 use Rattle.m3_kernel.specs.declared.done.Done.{Done}
 use Rattle.m3_kernel.specs.StepContracts as kernel_does
 use Rattle.m3_kernel.specs.KernelStateView.{KernelAt}
+use Rattle.m3_kernel.specs.OrderAnswers.{HolderIsSeated, Orders}
+use Rattle.m3_kernel.specs.declared.order.Ordered.{Ordered}
+use Rattle.m3_kernel.specs.declared.order.OrderRefusal.{OrderRefusal}
 use Rattle.m3_machine.specs.declared.tile.TileDid.{TileDid}
 use Rattle.m3_machine.specs.TileStepView.{Does}
 use Rattle.m3_base.specs.ExtentFiles.ScriptEntries.{plain_outcome as plain}
@@ -263,3 +271,32 @@ module _ (old : Parts) (links : List (List CodeParcel)) (to from : ℕ) where
           });
       site = refl;
     }
+
+-- ---- orders
+
+seated_by : (a : ℕ) (xs : List ActivityEntry) (ys : List Home) → map entry_act xs ≡ map home_act ys → is_some (keyed.find home_act same_act a ys) ≡ true → is_some (keyed.find entry_act same_act a xs) ≡ true
+seated_by a [] [] e h = h
+seated_by a [] (y ∷ ys) e h = absurd (cc)
+seated_by a (x ∷ xs) [] e h = absurd (cc)
+seated_by a (x ∷ xs) (y ∷ ys) e h =
+    let k : x.act ≡ y.act = cc in
+    let f : map entry_act xs ≡ map home_act ys = cc in
+    let r = seated_by a xs ys f in
+    grind (arith, nat_tests, h, k, r)
+
+-- who is to hold a grant has a seat
+pub holder_seated : (p : Parts) (o : Order) → map entry_act p.kernel.seats ≡ map home_act p.site.homes → IsOfSetup p.site (Event.Order o) → HolderIsSeated p.kernel o
+holder_seated p (Order.Grant line) e of = seated_by (holder line) p.kernel.seats p.site.homes e of.0
+holder_seated p (Order.Switch t a) e of = tt
+holder_seated p (Order.Revoke g) e of = tt
+
+-- what the kernel did by an order
+pub order_at : {E : Type 0} (old : Parts) (now : KernelAt) (o : Order) (answer : Result Ordered OrderRefusal) (done : Result Done E) → now.site ≡ old.site → kernel_does.TellsOrder answer done → Orders answer old.kernel now.kernel (kernel_order old.site old.kernel o)
+    → IfOk done (λ d. DoesAt 0 old (record { site = now.site; kernel = now.kernel; memory = old.memory; tiles = old.tiles }) d (machine.part_step old.site (part_of 0 old) (Event.Order o) None None))
+order_at old now o answer (Ok done) site tells orders = kernel_at old now 0 done (kernel_order old.site old.kernel o) _ refl site (tells old.kernel now.kernel (kernel_order old.site old.kernel o) orders)
+order_at old now o answer (Err e) site tells orders = tt
+
+pub order_kept : {E : Type 0} (old : Parts) (now : KernelAt) (o : Order) (answer : Result Ordered OrderRefusal) (done : Result Done E) → now.site ≡ old.site → kernel_does.TellsOrder answer done → Orders answer old.kernel now.kernel (kernel_order old.site old.kernel o)
+    → OnErr done (record { site = now.site; kernel = now.kernel; memory = old.memory; tiles = old.tiles } ≡ old)
+order_kept old now o answer (Ok done) site tells orders = tt
+order_kept old now o answer (Err e) site tells orders = (λ i. record { site = site i; kernel = tells old.kernel now.kernel (kernel_order old.site old.kernel o) orders i; memory = old.memory; tiles = old.tiles })

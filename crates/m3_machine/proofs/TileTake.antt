@@ -5,7 +5,6 @@ use Rattle.std.specs.List.{list_any}
 use Rattle.std.proofs.lemmas.Bool.Decides.{nat_tests}
 use Rattle.m3_base.specs.declared.packet.Packet.{Packet}
 use Rattle.m3_base.specs.declared.event.Said.{Said}
-use Rattle.m3_base.specs.Ideal.Flights.{name_of}
 use Rattle.m3_base.specs.Lists.Keyed as keyed
 use Rattle.m3_base.specs.Ideal.State.{same_act}
 use Rattle.m3_base.specs.Ideal.Context.{Context}
@@ -14,16 +13,16 @@ use Rattle.m3_base.specs.Placement.Routing.{target}
 use Rattle.m3_base.specs.Placement.Take.{is_here}
 use Rattle.m3_machine.specs.declared.tile.TileDid.{TileDid}
 use Rattle.m3_model.specs.Config.Site.{Site}
-use Rattle.m3_model.specs.Parcel.{Heard, Data, Saved}
+use Rattle.m3_model.specs.Parcel.{Heard, Saved}
 use Rattle.m3_model.specs.Tile.State.{First, Resident, Tile}
 use Rattle.m3_model.specs.LocalStep.{LocalResult, local_result, dropped_result, heard_in_answer}
-use Rattle.m3_model.specs.Config.KnownActivities.{is_named_context, has_bounded_counters}
 use Rattle.m3_kernel.specs.ParcelView.{out_of}
 use Rattle.m3_model.specs.Tile.Step.{resident_act, resident_of, with_resident, seen_after_answers, resident_after_answers, heard_by, act_in, take_arrived, arrive_named, take_here, bounced, take_data, is_waiting, is_waiting_resident, has_ended, with_current, take_save, resident_at_restore, after_restore, may_return, take_restore}
 use Rattle.m3_model.specs.Machine.{new_stay}
 use Rattle.m3_machine.specs.TileView.{runs}
 use Rattle.m3_machine.specs.TileStepView.{Lands, Does}
 use Rattle.m3_base.specs.ExtentFiles.ScriptEntries.{plain_outcome as plain}
+use Rattle.m3_base.proofs.Activities.{same_act-turned}
 
 -- a program that has made no move hears nothing
 still_first : (xs : List Heard) → seen_after_answers First xs ≡ First
@@ -133,12 +132,9 @@ saves old t a acts o c d is some here said sent =
 
 -- ---- a Restore
 
-either_way : (a b : ℕ) → (b == a) ≡ (a == b)
-either_way a b = grind (arith, nat_tests)
-
 pub houses_as : (a : ℕ) (acts : List ℕ) → list_any (λ b. b == a) acts ≡ is_some (keyed.find resident_act same_act a (map new_stay acts))
 houses_as a [] = refl
-houses_as a (b ∷ acts) = ap (λ t. t || list_any (λ y. y == a) acts) (either_way a b) ∙ by_test (a == b) (houses_as a acts)
+houses_as a (b ∷ acts) = ap (λ t. t || list_any (λ y. y == a) acts) (same_act-turned b a) ∙ by_test (a == b) (houses_as a acts)
   where
     by_test : (t : Bool) → list_any (λ y. y == a) acts ≡ is_some (keyed.find resident_act same_act a (map new_stay acts)) → (t || list_any (λ y. y == a) acts) ≡ is_some (if t then Some (new_stay b) else keyed.find resident_act same_act a (map new_stay acts))
     by_test true r = refl

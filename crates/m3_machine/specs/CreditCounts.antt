@@ -7,7 +7,7 @@ use Rattle.m3_base.specs.Lists.Counting.{total, how_many}
 use Rattle.m3_base.specs.Ideal.Credits.{held_at, queued_at, queued_credits, is_refusal, gives_back_in}
 use Rattle.m3_base.specs.Ideal.State.{same_act}
 use Rattle.m3_endpoint.specs.Counters.{Adds}
-use Rattle.m3_machine.specs.declared.tally.Tally.{Tally}
+use Rattle.m3_machine.specs.declared.credit_counts.CreditCounts.{CreditCounts}
 
 -- ---- a table of contexts by activity
 
@@ -17,12 +17,16 @@ last_of o a [] = o
 last_of o a (c ∷ cs) = last_of (if same_act a c.act then Some c else o) a cs
 
 abbrev pub listed : List (Option (Bor Context)) → ℕ → Option Context
-listed roster a = option_copied (slice_index_or roster a None)
+listed table a = option_copied (slice_index_or table a None)
 
 -- these contexts were entered, one after the other
 pub record Enters (cs : List Context) (old new : List (Option (Bor Context))) : Type 0 where
   pub size : length new ≡ length old
   pub found : (a : ℕ) → listed new a ≡ last_of (listed old a) a cs
+
+-- they were, into a table with a place for each number of an activity
+abbrev pub EntersWhole : List Context → List (Option (Bor Context)) → List (Option (Bor Context)) → Type 0
+EntersWhole cs old new = length old ≡ 256 → Enters cs old new
 
 -- ---- the credits, where the activities' contexts are found so
 
@@ -43,7 +47,11 @@ abbrev pub queued : ℕ → List Context → ℕ
 queued g cs = total (λ c. total (queued_at g) c.endpoints) cs
 
 -- the counts rose by what these contexts and these packets have
-pub record Counts (find : ℕ → Option Context) (cs : List Context) (ps : List Packet) (old new : Tally) : Type 0 where
+pub record Counts (find : ℕ → Option Context) (cs : List Context) (ps : List Packet) (old new : CreditCounts) : Type 0 where
   pub held_is : Adds (λ g. held g cs ps) old.held.items new.held.items
   pub flying_is : Adds (λ g. flying g find ps) old.flying.items new.flying.items
   pub queued_is : Adds (λ g. queued g cs) old.queued.items new.queued.items
+
+-- they did, by a table of contexts that stayed as it was
+abbrev pub CountsBy : List Context → List Packet → List (Option (Bor Context)) → List (Option (Bor Context)) → CreditCounts → CreditCounts → Type 0
+CountsBy cs ps table same old new = (same ≡ table) × Counts (listed table) cs ps old new

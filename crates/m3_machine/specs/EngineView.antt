@@ -1,10 +1,12 @@
 -- An engine as contracts see it, and what one event of it is.
-use Rattle.std.specs.Prelude.{◌≡◌, ℕ, ◌+◌, ◌*◌, ◌≤◌, List, [], ◌∷◌, ◌++◌, length, slice_index_or, slice_set, None, Some}
+use Rattle.std.specs.Prelude.{◌≡◌, ℕ, ◌+◌, ◌*◌, ◌≤◌, List, [], ◌∷◌, ◌++◌, length, map, slice_index_or, slice_set, None, Some}
 use Rattle.m3_base.specs.declared.event.Event.{Event}
 use Rattle.m3_base.specs.declared.event.Outcome.{Outcome}
 use Rattle.m3_base.specs.Setup.Rules.{SetupValue}
-use Rattle.m3_model.specs.Config.Site.{Site}
+use Rattle.m3_model.specs.Config.Site.{Site, home_act}
+use Rattle.m3_model.specs.Kernel.Step.{entry_act}
 use Rattle.m3_model.specs.Parcel.{Parcel}
+use Rattle.m3_model.specs.KernelNumber.{HasLowKernel}
 use Rattle.m3_model.specs.NumberBounds.{CountersBounded}
 use Rattle.m3_model.specs.Machine.{Machine, machine_step}
 use Rattle.m3_model.specs.Invariant.Housing.{IsSetup}
@@ -27,11 +29,13 @@ pub record IsEngine (e : Inside) : Type 0 where
 abbrev pub opened_engine : SetupValue → EngineAt
 opened_engine s = record { site = site s; machine = opened_by_setup s }
 
--- next numbers and next tokens are those that so many entries leave
-pub record CanMake (m : Machine) : Type 0 where
+-- next numbers and next tokens are those that so many entries leave, and the kernel has a seat for each activity
+pub record CanMake (e : EngineAt) : Type 0 where
   pub entries : ℕ
   pub few : entries ≤ 2097152
-  pub low : CountersBounded entries m
+  pub low : CountersBounded entries e.machine
+  pub number : HasLowKernel entries e.machine
+  pub seats : map entry_act e.machine.kernel.seats ≡ map home_act e.site.homes
 
 -- the machine moved as the local step of the event's part says, with this outcome
 pub record Makes (old : EngineAt) (e : Event) (o : Outcome) (new : EngineAt) : Type 0 where

@@ -1,4 +1,5 @@
 pub mod TileView
+pub mod Traversal
 pub mod MemoryView
 pub mod PartsView
 pub mod EngineView

@@ -9,8 +9,9 @@ use Rattle.m3_base.specs.Journal.Entry.{EntryMatches, next_state}
 use Rattle.m3_base.specs.Placement.State.{Placement}
 use Rattle.m3_base.specs.Placement.EntryStep.{IsPlacementStep}
 use Rattle.m3_base.specs.Setup.Rules.{SetupValue, facts_of, is_undeclared}
-use Rattle.m3_base.specs.Ideal.State.{State}
+use Rattle.m3_base.specs.Ideal.State.{State, holder}
 use Rattle.m3_model.specs.Abstraction.{ideal_of, placement_of}
+use Rattle.m3_base.specs.Limits.{HasRanges}
 use Rattle.m3_model.specs.Machine.{Machine, machine_step}
 use Rattle.m3_trace.specs.IdleOutcomes.{IsIdle}
 use Rattle.m3_trace.specs.Opening.{site, opened_by_setup, entry}
@@ -42,11 +43,12 @@ pub record HasBounds (m : Inside) : Type 0 where
 
 -- ---- one step
 
--- the activity that the event names is one of the setup
+-- the activity that the event names is one of the setup, and the numbers of a grant are in their ranges
 abbrev pub NamesActs : SetupValue → Event → Type 0
 NamesActs s (Event.Do a c) = is_undeclared a (facts_of s) ≡ false
 NamesActs s (Event.Tend a) = is_undeclared a (facts_of s) ≡ false
 NamesActs s (Event.Order (Order.Switch t a)) = is_undeclared a (facts_of s) ≡ false
+NamesActs s (Event.Order (Order.Grant line)) = (is_undeclared (holder line) (facts_of s) ≡ false) × HasRanges line
 NamesActs s event = Unit {0}
 
 -- one entry of this event was added, which says what the ideal machine's steps say; they lead to the ideal state that

@@ -8,7 +8,7 @@ use Rattle.m3_base.specs.Ideal.Acceptance.{is_form}
 use Rattle.m3_base.specs.Ideal.State.{State, Grant, context_of, grant_in}
 use Rattle.m3_base.specs.Ideal.GrantRules.{holds_at}
 use Rattle.m3_base.specs.Ideal.Opening.{with_lines, opening}
-use Rattle.m3_base.specs.Setup.Rules.{Facts, SetupValue, AllKept, facts_with_lines, facts_of, home_in}
+use Rattle.m3_base.specs.Setup.Rules.{Facts, SetupValue, AllKept, facts_with_lines, facts_of, home_at}
 use Rattle.m3_model.specs.ContextTable.{HasContexts}
 use Rattle.m3_model.specs.NumberBounds.{HasBoundedCounters}
 
@@ -25,7 +25,7 @@ pub record Progress (setup : SetupValue) (table : List (Option Context)) (n : �
   pub facts : Facts
   pub grants : facts.grants ≡ state.grants
   pub room : length facts.homes ≡ 64
-  pub homes : (a : ℕ) → is_some (home_in facts.homes a) ≡ is_some (context_of a state.contexts)
+  pub homes : (a : ℕ) → is_some (home_at facts.homes a) ≡ is_some (context_of a state.contexts)
   pub kept : AllKept left facts
   pub opens : with_lines state left ≡ opening setup.memory setup.lines
   pub ends : facts_with_lines left facts ≡ facts_of setup

@@ -1,8 +1,10 @@
 -- The parts of a machine as contracts see them, and what one of them did.
-use Rattle.std.specs.Prelude.{◌≡◌, ℕ, ◌≤◌, ◌++◌, List, [], length, Option, Some}
+use Rattle.std.specs.Prelude.{◌≡◌, ℕ, ◌≤◌, ◌++◌, List, [], length, map, Option, Some}
 use Rattle.m3_base.specs.declared.event.Event.{Event}
-use Rattle.m3_model.specs.Config.Site.{Site}
+use Rattle.m3_model.specs.Config.Site.{Site, home_act}
 use Rattle.m3_model.specs.Kernel.State.{Kernel}
+use Rattle.m3_model.specs.Kernel.Step.{entry_act}
+use Rattle.m3_model.specs.KernelNumber.{HasLowKernel}
 use Rattle.m3_model.specs.Parcel.{Parcel}
 use Rattle.m3_model.specs.Tile.State.{Tile}
 use Rattle.m3_model.specs.LocalStep.{LocalResult}
@@ -38,12 +40,15 @@ abbrev pub IsNoTake : Event → Type 0
 IsNoTake (Event.Take to from) = ⊥
 IsNoTake event = Unit {0}
 
--- next numbers and next tokens are those that so many entries leave, wherever a context is
+-- next numbers and next tokens are those that so many entries leave, wherever a context is, and the kernel has a seat
+-- for each activity
 pub record IsAble (p : Parts) : Type 0 where
   pub entries : ℕ
   pub few : entries ≤ 2097152
   pub links : List (List Parcel)
   pub low : CountersBounded entries (linked links p)
+  pub number : HasLowKernel entries (linked links p)
+  pub seats : map entry_act p.kernel.seats ≡ map home_act p.site.homes
 
 -- the part at this tile did what the local step says, and no other part changed
 pub record DoesAt (t : ℕ) (old new : Parts) (done : Done) (step : Option (LocalResult Part)) : Type 0 where

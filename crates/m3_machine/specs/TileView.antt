@@ -21,10 +21,10 @@ abbrev pub runs : ℕ → Option Context → Bool
 runs a None = false
 runs a (Some x) = x.act == a
 
-abbrev pub first_of : Option Context → Option Context → Option Context
-first_of None c = c
-first_of (Some x) c = Some x
+abbrev pub first_some : Option Context → Option Context → Option Context
+first_some None c = c
+first_some (Some x) c = Some x
 
 -- one more activity at home there, which runs where it is the first
 abbrev pub seated_with : ℕ → Option Context → Tile → Tile
-seated_with a c t = record t { current = first_of t.current c; stays = t.stays ++ new_stay a ∷ [] }
+seated_with a c t = record t { current = first_some t.current c; stays = t.stays ++ new_stay a ∷ [] }

@@ -6,12 +6,14 @@ ghost use Rattle.m3_kernel.specs.ParcelView.{parcels_of};
 ghost use Rattle.m3_kernel.specs.ActivityView.{seat_value, seats_of};
 ghost use Rattle.m3_link.specs.LinkOps.{data_on};
 ghost use Rattle.m3_model.specs.Abstraction.{flat_map, held_by};
-ghost use Rattle.m3_machine.specs.AuditView.{IsSized, IsTally, live_line, live_lines, contexts_of, packets_of};
+ghost use Rattle.m3_machine.specs.AuditView.{IsSized, AreCreditsOf, live_line, live_lines};
+ghost use Rattle.m3_machine.specs.Traversal.{contexts_of, packets_of};
 ghost use Rattle.m3_trace.specs.DriverOfMachine.{tile_lines};
 
-use crate::roster::roster;
-use crate::tally::Tally;
+use crate::context_table::ContextTable;
+use crate::credit_counts::{CreditCounter, CreditCounts};
 use crate::tile::TilePart;
+use crate::traversal::visit_all;
 use m3_base::ids::{GrantId, TileId};
 use m3_base::journal::AuditLine;
 use m3_base::packet::Fresh;
@@ -26,21 +28,24 @@ fn counted(
     tiles: &[TilePart],
     seats: &[Seat],
     links: &Wires,
-) -> Result<Tally, AllocError>
-    ensures { IfOk result (IsTally (contexts_of tiles.now (seats_of seats.now) (parcels_of links.now.lists)) (packets_of (seats_of seats.now) (parcels_of links.now.lists))) }
+) -> Result<CreditCounts, AllocError>
+    ensures { IfOk result (AreCreditsOf
+        (contexts_of tiles.now (seats_of seats.now) (parcels_of links.now.lists))
+        (packets_of (seats_of seats.now) (parcels_of links.now.lists))) }
 {
-    let roster = roster(alloc, tiles, seats, links)?;
-    let mut tally = Tally::new(alloc)?;
-    tally.tiles(tiles);
-    tally.seats(&roster, seats);
-    tally.links(&roster, links.all());
-    Ok(tally)
+    let mut contexts = ContextTable::new(alloc)?;
+    visit_all(tiles, seats, links, &mut contexts);
+    let counts = CreditCounts::new(alloc)?;
+    let mut counter = CreditCounter { contexts, counts };
+    visit_all(tiles, seats, links, &mut counter);
+    let CreditCounter { counts, .. } = counter;
+    Ok(counts)
 }
 
 /// The line of the grant of this number, where it is a live send grant.
-fn grant_line(grants: &Grants, tally: &Tally, grant: GrantId) -> Option<AuditLine>
-    requires { IsSized tally.now }
-    ensures { option_to_list result ≡ live_line tally.now grant (grant_in grants.now.grants grant) }
+fn grant_line(grants: &Grants, counts: &CreditCounts, grant: GrantId) -> Option<AuditLine>
+    requires { IsSized counts.now }
+    ensures { option_to_list result ≡ live_line counts.now grant (grant_in grants.now.grants grant) }
 {
     if !grants.live(grant) {
         return None;
@@ -51,9 +56,9 @@ fn grant_line(grants: &Grants, tally: &Tally, grant: GrantId) -> Option<AuditLin
     let at = usize::from(grant.number());
     Some(AuditLine::Credit {
         grant,
-        held: tally.held[at],
-        flying: tally.flying[at],
-        queued: tally.queued[at],
+        held: counts.held[at],
+        flying: counts.flying[at],
+        queued: counts.queued[at],
         limit: u32::from(limit),
     })
 }
@@ -67,12 +72,14 @@ pub fn credit_lines(
     links: &Wires,
     lines: &mut Vec<AuditLine>,
 ) -> Result<(), AllocError>
-    ensures { OnOk result (lines.new.items ≡ lines.old.items ++ live_lines (contexts_of tiles.now (seats_of seats.now) (parcels_of links.now.lists)) (packets_of (seats_of seats.now) (parcels_of links.now.lists)) grants.now.grants) }
+    ensures { OnOk result (lines.new.items ≡ lines.old.items ++ live_lines
+        (contexts_of tiles.now (seats_of seats.now) (parcels_of links.now.lists))
+        (packets_of (seats_of seats.now) (parcels_of links.now.lists)) grants.now.grants) }
 {
-    let tally = counted(alloc, tiles, seats, links)?;
+    let counts = counted(alloc, tiles, seats, links)?;
     let count = grants.count();
     for number in 1..count + 1 {
-        if let Some(line) = grant_line(grants, &tally, GrantId::new(number)) {
+        if let Some(line) = grant_line(grants, &counts, GrantId::new(number)) {
             lines.push(line)?;
         }
     }

@@ -17,7 +17,7 @@ ghost use Rattle.m3_machine.specs.declared.machine.StepRefusal.{StepRefusal};
 use crate::machine::StepRefusal;
 use crate::memory::MemPart;
 use crate::next::next_event;
-use crate::opening::{contexts, seated};
+use crate::opening::{contexts, tiles};
 use crate::parts::Parts;
 use crate::tile::{TilePart, idle};
 use m3_base::event::{Event, IdleWhy, Outcome};
@@ -52,6 +52,7 @@ impl Model for Engine {
 }
 
 /// A parcel joins its link, which has room for it.
+#[inline(always)]
 fn push(wires: &mut Wires, from: TileId, emit: Option<Emit>)
     requires { HasRoom wires.old.spare 1 from }
     ensures lists { parcels_of wires.new.lists ≡ out_links from (out_of emit) (parcels_of wires.old.lists) }
@@ -63,10 +64,12 @@ fn push(wires: &mut Wires, from: TileId, emit: Option<Emit>)
 }
 
 /// What a part sends joins its links, each of which has room for two parcels.
+#[inline(always)]
 fn send(wires: &mut Wires, from: TileId, done: Done) -> Outcome
     requires { HasRoom wires.old.spare 2 from }
     ensures outcome { result ≡ done.outcome }
-    ensures lists { parcels_of wires.new.lists ≡ out_links from (out_of done.first ++ out_of done.second) (parcels_of wires.old.lists) }
+    ensures lists { parcels_of wires.new.lists ≡
+        out_links from (out_of done.first ++ out_of done.second) (parcels_of wires.old.lists) }
 {
     let Done {
         outcome,
@@ -86,9 +89,9 @@ impl Engine {
         ensures opened { IfOk result (λ e. e ≡ opened_engine setup.now) }
         ensures low { IfOk result (λ e. CountersBounded 0 (opened_by_setup setup.now)) }
     {
-        let mut kernel = Kernel::new(alloc, setup)?;
         let mut table = contexts(alloc, setup)?;
-        let tiles = seated(alloc, setup, &mut kernel, &mut table)?;
+        let kernel = Kernel::new(alloc, setup, &mut table)?;
+        let tiles = tiles(alloc, setup, &kernel, &mut table)?;
         let memory = MemPart::new(alloc, setup.memory())?;
         let wires = Wires::new(alloc)?;
         let parts = Parts {
@@ -120,7 +123,7 @@ impl Engine {
     /// A part makes an event that takes no parcel.
     fn make(&mut self, alloc: Global, event: Event) -> Result<Outcome, StepRefusal>
         requires declared { IsOfSetup self.old.site event }
-        requires able { CanMake self.old.machine }
+        requires able { CanMake self.old }
         requires own { IsNoTake event }
         ensures ok { IfOk result (λ o. Makes self.old event o self.new) }
         ensures served { OnOk result (IsServed event) }
@@ -138,7 +141,7 @@ impl Engine {
     /// Makes one event, and says what it came to. After a refusal the engine is as before.
     pub fn step(&mut self, alloc: Global, event: Event) -> Result<Outcome, StepRefusal>
         requires declared { IsOfSetup self.old.site event }
-        requires able { CanMake self.old.machine }
+        requires able { CanMake self.old }
         ensures ok { IfOk result (λ o. Makes self.old event o self.new) }
         ensures served { OnOk result (IsServed event) }
         ensures within { OnOk result (IsWithin event) }

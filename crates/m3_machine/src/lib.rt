@@ -2,14 +2,15 @@
 #![tactic(auto)]
 
 mod audit;
+mod context_table;
+mod credit_counts;
 pub mod engine;
 pub mod machine;
 pub mod memory;
 mod next;
-mod opening;
+pub mod opening;
 pub mod parts;
 mod returning;
-mod roster;
 mod shown;
-mod tally;
 pub mod tile;
+mod traversal;

@@ -54,7 +54,7 @@ pub enum StepRefusal {
     Spent,
     /// No memory was left for the entry or for what it moves.
     NoMemory,
-    /// The event is a turn, a close, a grant, a revoke or a file event, none of which is served yet.
+    /// The event is a turn or a file event, neither of which is served yet.
     Unserved,
 }
 
@@ -67,6 +67,7 @@ impl From<AllocError> for StepRefusal {
 }
 
 /// A copy of an event that may be served.
+#[inline(always)]
 fn copied(alloc: Global, event: &Event) -> Result<Event, StepRefusal>
     ensures same { IfOk result (λ e. e ≡ event.now) }
     ensures memory { IfErr result (λ e. e ≢ StepRefusal.Spent) }
@@ -82,12 +83,14 @@ fn copied(alloc: Global, event: &Event) -> Result<Event, StepRefusal>
             from: *from,
         }),
         Event::Tend(act) => Ok(Event::Tend(*act)),
+        Event::Close => Ok(Event::Close),
         Event::Order(order) => Ok(Event::Order(*order)),
         _ => Err(StepRefusal::Unserved),
     }
 }
 
 /// An entry joins the journal, which has room for it.
+#[inline(always)]
 fn add(entries: &mut Vec<Entry>, event: Event, outcome: Outcome)
     requires { vec_len entries.old < vec_capacity entries.old }
     ensures { entries.new.items ≡ entries.old.items ++ entry event outcome ∷ [] }
@@ -125,9 +128,14 @@ impl Machine {
         ensures valid { IsValid self.now.setup }
         ensures few { length self.now.entries ≤ 2097152 }
         ensures run { IsRun (opening self.now.setup.memory self.now.setup.lines) self.now.entries }
-        ensures reaches { state_after_entries (opening self.now.setup.memory self.now.setup.lines) self.now.entries ≡ ideal self.now }
-        ensures replies { (a : ℕ) → printed_replies a (opening self.now.setup.memory self.now.setup.lines) self.now.entries ≡ ideal_replies a (opening self.now.setup.memory self.now.setup.lines) (steps_in self.now.entries) }
-        ensures places { PlacementRun (opening self.now.setup.memory self.now.setup.lines) (opening_placement [] self.now.setup.lines) self.now.entries (placement self.now) }
+        ensures reaches { state_after_entries (opening self.now.setup.memory self.now.setup.lines)
+            self.now.entries ≡ ideal self.now }
+        ensures replies { (a : ℕ) → printed_replies a
+            (opening self.now.setup.memory self.now.setup.lines) self.now.entries ≡
+            ideal_replies a (opening self.now.setup.memory self.now.setup.lines)
+            (steps_in self.now.entries) }
+        ensures places { PlacementRun (opening self.now.setup.memory self.now.setup.lines)
+            (opening_placement [] self.now.setup.lines) self.now.entries (placement self.now) }
         ensures laws { AfterEach (KeepsLaws (opening self.now.setup.memory self.now.setup.lines)) self.now.entries }
     {
         &self.journal

@@ -1,4 +1,4 @@
-//! The contexts that a setup opens with.
+//! The contexts that a setup opens with, and the tiles.
 
 ghost use Rattle.std.specs.Prelude.{◌≡◌, ℕ, ◌+◌, ◌≤◌, List, ◌∷◌, [], length, replicate, slice_set, slice_index_or, None, Some, IfOk, OnOk};
 ghost use Rattle.m3_base.specs.Ideal.Context.{Context, new_context, with_endpoint, new_endpoint};
@@ -9,10 +9,8 @@ ghost use Rattle.m3_model.specs.ContextTable.{HasContexts};
 ghost use Rattle.m3_machine.specs.OpeningInvariant.{AtLine, Progress, CanInstall};
 ghost use Rattle.m3_model.specs.NumberBounds.{HasBoundedCounters};
 ghost use Rattle.m3_model.specs.Machine.{empty_tiles};
-ghost use Rattle.m3_model.specs.Kernel.Step.{entry_of};
-ghost use Rattle.m3_kernel.specs.KernelQueries.{with_new_seat, HasPlaceFor};
-ghost use Rattle.m3_machine.specs.TileView.{seated_with};
-ghost use Rattle.m3_machine.specs.OpenedParts.{rests_with, IsOpening, IsOpened};
+ghost use Rattle.m3_trace.specs.Opening.{opened_by_setup};
+ghost use Rattle.m3_machine.specs.OpenedParts.{HasTileContexts};
 
 use crate::tile::TilePart;
 use m3_base::ids::{ActId, EpId, GrantId, TileId};
@@ -48,7 +46,8 @@ fn declare(alloc: Global, table: &mut Vec<Option<Context>>, act: ActId) -> Resul
 fn install(table: &mut Vec<Option<Context>>, act: ActId, ep: EpId, fresh: Fresh)
     requires count { length table.old.items ≡ 64 }
     requires can { CanInstall table.old.items act ep fresh }
-    ensures { (c : Context) → slice_index_or table.old.items act None ≡ Some c → table.new.items ≡ slice_set table.old.items act (Some (with_endpoint c ep (new_endpoint fresh))) }
+    ensures { (c : Context) → slice_index_or table.old.items act None ≡ Some c → table.new.items ≡
+        slice_set table.old.items act (Some (with_endpoint c ep (new_endpoint fresh))) }
 {
     match &mut table[usize::from(act.number())] {
         None => unreachable!(),
@@ -60,7 +59,8 @@ fn install(table: &mut Vec<Option<Context>>, act: ActId, ep: EpId, fresh: Fresh)
 /// are then.
 fn grant(setup: &Setup, table: &mut Vec<Option<Context>>, count: u16, line: &GrantLine) -> u16
     requires { AtLine setup.now table.old.items count (SetupLine.Grant line.now) }
-    ensures { (left : List SetupLine) → Progress setup.now table.old.items count (SetupLine.Grant line.now ∷ left) → Progress setup.now table.new.items result left }
+    ensures { (left : List SetupLine) → Progress setup.now table.old.items count (SetupLine.Grant
+        line.now ∷ left) → Progress setup.now table.new.items result left }
 {
     let number = count + 1;
     match setup.fresh(GrantId::new(number)) {
@@ -81,7 +81,8 @@ fn read(
     line: &SetupLine,
 ) -> Result<u16, AllocError>
     requires { AtLine setup.now table.old.items count line.now }
-    ensures { IfOk result (λ n. (left : List SetupLine) → Progress setup.now table.old.items count (line.now ∷ left) → Progress setup.now table.new.items n left) }
+    ensures { IfOk result (λ n. (left : List SetupLine) → Progress setup.now table.old.items count
+        (line.now ∷ left) → Progress setup.now table.new.items n left) }
 {
     match line {
         SetupLine::Act { act, .. } => {
@@ -118,44 +119,21 @@ fn no_tiles(alloc: Global) -> Result<Vec<TilePart>, AllocError>
     Ok(tiles)
 }
 
-/// Seats an activity with its context: it is at its tile where it is the first there, and else it rests in the kernel.
-fn seat(
-    alloc: Global,
-    kernel: &mut Kernel,
-    tile: &mut TilePart,
-    act: ActId,
-    context: Option<Context>,
-) -> Result<(), AllocError>
-    requires fresh { entry_of act kernel.old.kernel ≡ None }
-    requires place { HasPlaceFor kernel.old act (rests_with tile.old.current context) }
-    ensures tile { OnOk result (tile.new ≡ seated_with act context tile.old) }
-    ensures kernel { OnOk result (kernel.new ≡ with_new_seat act (rests_with tile.old.current context) kernel.old) }
-{
-    if tile.current().is_none() {
-        tile.seat(act, context)?;
-        kernel.seat(alloc, act, None)
-    } else {
-        tile.seat(act, None)?;
-        kernel.seat(alloc, act, context)
-    }
-}
-
-/// The tiles, each with the activities at home there and the context of the first; all others rest in the kernel.
-pub fn seated(
+/// The tiles, each with the activities at home there and the context of the first, which is taken out of the table.
+pub fn tiles(
     alloc: Global,
     setup: &Setup,
-    kernel: &mut Kernel,
+    kernel: &Kernel,
     table: &mut Vec<Option<Context>>,
 ) -> Result<Vec<TilePart>, AllocError>
-    requires { IsOpening setup.now kernel.old table.old.items }
-    ensures { IfOk result (λ v. IsOpened setup.now kernel.new v.items) }
+    requires { HasTileContexts setup.now kernel.now table.old.items }
+    ensures tiles { IfOk result (λ v. v.items ≡ (opened_by_setup setup.now).tiles) }
+    ensures count { IfOk result (λ v. length v.items ≡ 16) }
 {
     let mut tiles = no_tiles(alloc)?;
-    for at in 0..kernel.site().homes().len() {
-        let home = kernel.site().homes()[at];
+    for home in kernel.site().homes() {
         let context = table[usize::from(home.act().number())].take();
-        let tile = &mut tiles[usize::from(home.tile().number())];
-        seat(alloc, kernel, tile, home.act(), context)?;
+        tiles[usize::from(home.tile().number())].seat(home.act(), context)?;
     }
     Ok(tiles)
 }

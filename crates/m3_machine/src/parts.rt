@@ -2,7 +2,7 @@
 
 ghost use Rattle.std.specs.Prelude.{◌≡◌, ◌≢◌, ℕ, length, None, Some, true, IfOk, IfErr, OnOk, OnErr, Err};
 ghost use Rattle.m3_base.specs.declared.event.Event.{Event};
-ghost use Rattle.m3_base.specs.declared.order.Order.{Order};
+ghost use Rattle.m3_kernel.specs.OrderAnswers.{HasNumber, HolderIsSeated};
 ghost use Rattle.m3_kernel.specs.ParcelView.{parcel_of, out_of};
 ghost use Rattle.m3_model.specs.Events.{IsOfSetup, IsServed, IsUnserved, IsWithin};
 ghost use Rattle.m3_model.specs.Machine.{part_step, tile_for_event};
@@ -19,7 +19,7 @@ use m3_base::event::Event;
 use m3_base::ids::{ActId, TileId};
 use m3_base::order::Order;
 use m3_core::parcel::Parcel;
-use m3_kernel::done::Done;
+use m3_kernel::done::{Done, done_by_close, done_by_order};
 use m3_kernel::kernel::Kernel;
 use std::alloc::{AllocError, Global};
 
@@ -32,6 +32,7 @@ pub struct Parts {
 }
 
 /// What a tile or the memory did, as the kernel tells what it did.
+#[inline(always)]
 fn done_by(did: TileDid) -> Done
     ensures { result ≡ record { outcome = did.outcome; first = did.emit; second = None } }
 {
@@ -45,6 +46,7 @@ fn done_by(did: TileDid) -> Done
 
 impl Parts {
     /// The tile whose part makes the event.
+    #[inline(always)]
     pub fn tile_for(&self, event: &Event) -> TileId
         ensures { result ≡ tile_for_event self.now.kernel.site event.now }
     {
@@ -60,7 +62,9 @@ impl Parts {
     pub fn take(&mut self, to: TileId, parcel: Parcel) -> Result<Done, (Parcel, AllocError)>
         requires { HasTiles self.old }
         ensures tiles { HasTiles self.new }
-        ensures ok { IfOk result (λ d. (from : ℕ) → DoesAt to (parts_of self.old) (parts_of self.new) d (part_step self.old.kernel.site (part_of to (parts_of self.old)) (Event.Take to from) None (Some (parcel_of parcel)))) }
+        ensures ok { IfOk result (λ d. (from : ℕ) → DoesAt to (parts_of self.old)
+            (parts_of self.new) d (part_step self.old.kernel.site (part_of to (parts_of self.old))
+            (Event.Take to from) None (Some (parcel_of parcel)))) }
         ensures err { OnErr result (parts_of self.new ≡ parts_of self.old) }
         ensures given_back { IfErr result (λ e. e.0 ≡ parcel) }
     {
@@ -81,7 +85,11 @@ impl Parts {
         requires able { IsAble (parts_of self.old) }
         requires declared { is_home self.old.kernel.site act ≡ true }
         ensures tiles { HasTiles self.new }
-        ensures ok { IfOk result (λ d. DoesAt (tile_for_event self.old.kernel.site (Event.Do act command)) (parts_of self.old) (parts_of self.new) d (part_step self.old.kernel.site (part_of (tile_for_event self.old.kernel.site (Event.Do act command)) (parts_of self.old)) (Event.Do act command) None None)) }
+        ensures ok { IfOk result (λ d. DoesAt
+            (tile_for_event self.old.kernel.site (Event.Do act command)) (parts_of self.old)
+            (parts_of self.new) d (part_step self.old.kernel.site
+            (part_of (tile_for_event self.old.kernel.site (Event.Do act command))
+            (parts_of self.old)) (Event.Do act command) None None)) }
         ensures err { OnErr result (parts_of self.new ≡ parts_of self.old) }
     {
         let tile = self.kernel.site().tile_of(act.number());
@@ -90,21 +98,33 @@ impl Parts {
         Ok(done_by(did))
     }
 
-    /// The kernel makes an order. Of these switches alone are served.
-    fn order(&mut self, order: Order) -> Result<Done, StepRefusal>
-        requires { HasTiles self.old }
+    /// The kernel carries out an order.
+    fn order(&mut self, order: Order) -> Result<Done, AllocError>
+        requires tiles { HasTiles self.old }
+        requires seated { HolderIsSeated self.old.kernel.kernel order }
+        requires number { HasNumber self.old.kernel.kernel }
         ensures tiles { HasTiles self.new }
-        ensures ok { IfOk result (λ d. DoesAt 0 (parts_of self.old) (parts_of self.new) d (part_step self.old.kernel.site (part_of 0 (parts_of self.old)) (Event.Order order) None None)) }
-        ensures served { OnOk result (IsServed (Event.Order order)) }
-        ensures within { OnOk result (IsWithin (Event.Order order)) }
+        ensures ok { IfOk result (λ d. DoesAt 0 (parts_of self.old) (parts_of self.new) d
+            (part_step self.old.kernel.site (part_of 0 (parts_of self.old)) (Event.Order order) None
+            None)) }
         ensures err { OnErr result (parts_of self.new ≡ parts_of self.old) }
-        ensures memory { IfErr result (λ e. e ≢ StepRefusal.Spent) }
-        ensures unserved { result ≡ Err StepRefusal.Unserved → IsUnserved (Event.Order order) }
     {
-        match order {
-            Order::Switch { tile, act } => Ok(self.kernel.switch(tile, act)),
-            _ => Err(StepRefusal::Unserved),
-        }
+        let answer = self.kernel.order(order);
+        done_by_order(answer)
+    }
+
+    /// The kernel sends the Close that is due.
+    fn close(&mut self) -> Result<Done, AllocError>
+        requires tiles { HasTiles self.old }
+        requires number { HasNumber self.old.kernel.kernel }
+        ensures tiles { HasTiles self.new }
+        ensures ok { IfOk result (λ d. DoesAt 0 (parts_of self.old) (parts_of self.new) d
+            (part_step self.old.kernel.site (part_of 0 (parts_of self.old)) Event.Close None
+            None)) }
+        ensures err { OnErr result (parts_of self.new ≡ parts_of self.old) }
+    {
+        let sent = self.kernel.close()?;
+        Ok(done_by_close(sent))
     }
 
     /// The part that makes the event makes it, where it takes no parcel. Out of memory changes nothing.
@@ -115,7 +135,10 @@ impl Parts {
         requires declared { IsOfSetup self.old.kernel.site event }
         requires own { IsNoTake event }
         ensures tiles { HasTiles self.new }
-        ensures ok { IfOk result (λ d. DoesAt (tile_for_event self.old.kernel.site event) (parts_of self.old) (parts_of self.new) d (part_step self.old.kernel.site (part_of (tile_for_event self.old.kernel.site event) (parts_of self.old)) event None None)) }
+        ensures ok { IfOk result (λ d. DoesAt (tile_for_event self.old.kernel.site event)
+            (parts_of self.old) (parts_of self.new) d
+            (part_step self.old.kernel.site (part_of (tile_for_event self.old.kernel.site event)
+            (parts_of self.old)) event None None)) }
         ensures served { OnOk result (IsServed event) }
         ensures within { OnOk result (IsWithin event) }
         ensures err { OnErr result (parts_of self.new ≡ parts_of self.old) }
@@ -125,9 +148,9 @@ impl Parts {
         match event {
             Event::Do { act, command } => Ok(self.command(alloc, act, command)?),
             Event::Tend(act) => Ok(self.kernel.tend(alloc, act)?),
-            Event::Order(order) => self.order(order),
+            Event::Order(order) => Ok(self.order(order)?),
+            Event::Close => Ok(self.close()?),
             Event::Turn(_) => Err(StepRefusal::Unserved),
-            Event::Close => Err(StepRefusal::Unserved),
             Event::File(_) => Err(StepRefusal::Unserved),
             Event::Take { .. } => unreachable!(),
         }

@@ -35,6 +35,7 @@ fn copy_of(alloc: Global, message: &Message) -> Result<Shown, AllocError>
 }
 
 /// What the command fetches, where it is a fetch and a message is unread.
+#[inline(always)]
 pub fn front(
     alloc: Global,
     context: &Context,
@@ -52,6 +53,7 @@ pub fn front(
 }
 
 /// The outcome of a fetch that gave this token, or none.
+#[inline(always)]
 pub fn fetched(token: Option<u32>, front: Option<Shown>) -> Said
     ensures { result ≡ said_fetched front token }
 {

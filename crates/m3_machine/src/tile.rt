@@ -56,6 +56,7 @@ impl Model for TilePart {
 }
 
 /// What is told, and what goes out.
+#[inline(always)]
 pub fn says(said: Said, emit: Option<Emit>) -> TileDid
     ensures outcome { result.outcome ≡ plain said }
     ensures emit { result.emit ≡ emit }
@@ -69,6 +70,7 @@ pub fn says(said: Said, emit: Option<Emit>) -> TileDid
 }
 
 /// The outcome of an event that changed nothing.
+#[inline(always)]
 pub fn idle(why: IdleWhy) -> Outcome
     ensures { result ≡ plain (Said.Idle why) }
 {
@@ -80,6 +82,7 @@ pub fn idle(why: IdleWhy) -> Outcome
 }
 
 /// An event that changed nothing.
+#[inline(always)]
 pub fn is_idle(why: IdleWhy) -> TileDid
     ensures outcome { result.outcome ≡ plain (Said.Idle why) }
     ensures out { out_of result.emit ≡ [] }
@@ -101,6 +104,7 @@ fn buffer(alloc: Global, command: &Command) -> Result<Payload, AllocError>
 }
 
 /// The packet, to its home: tile 1 for a read or a write, else the home of its activity.
+#[inline(always)]
 fn sent(site: &Site, packet: Packet) -> Option<Emit>
     ensures { out_of result ≡ new_out site.now (Some packet) }
 {
@@ -110,6 +114,7 @@ fn sent(site: &Site, packet: Packet) -> Option<Emit>
 }
 
 /// What is told of a command, where `front` is what a fetch takes.
+#[inline(always)]
 fn told(site: &Site, issued: Issued, front: Option<Shown>) -> TileDid
     ensures outcome { result.outcome ≡ plain (said_issued front issued) }
     ensures out { out_of result.emit ≡ new_out site.now (packet_issued issued) }
@@ -127,6 +132,7 @@ fn told(site: &Site, issued: Issued, front: Option<Shown>) -> TileDid
 }
 
 /// The parcel, to the kernel.
+#[inline(always)]
 fn to_kernel(parcel: Parcel) -> Option<Emit>
     ensures { out_of result ≡ (0, parcel_of parcel) ∷ [] }
 {
@@ -135,12 +141,14 @@ fn to_kernel(parcel: Parcel) -> Option<Emit>
 }
 
 /// That a grant's endpoint became free, to the kernel.
+#[inline(always)]
 fn closed(grant: GrantId) -> Option<Emit>
     ensures { out_of result ≡ closed_out (Some grant) }
 {
     to_kernel(Parcel::Closed(grant))
 }
 
+#[inline(always)]
 fn closed_if(grant: &Option<GrantId>) -> Option<Emit>
     ensures { out_of result ≡ closed_out grant.now }
 {
@@ -151,6 +159,7 @@ fn closed_if(grant: &Option<GrantId>) -> Option<Emit>
 }
 
 /// What is told of a packet that came, and what goes out: its answer, or that an endpoint became free.
+#[inline(always)]
 fn lands(site: &Site, came: Came) -> TileDid
     requires { AtMostOne came.answer came.freed }
     ensures outcome { result.outcome ≡ plain came.said }
@@ -168,6 +177,7 @@ fn lands(site: &Site, came: Came) -> TileDid
 }
 
 /// A packet for this context arrives where it fits and names activities of the setup alone, and is dropped else.
+#[inline(always)]
 fn land(site: &Site, context: &mut Context, packet: Packet) -> TileDid
     ensures { Lands site.now result context.old context.new (arrive_named site.now context.old packet) }
 {
@@ -178,6 +188,7 @@ fn land(site: &Site, context: &mut Context, packet: Packet) -> TileDid
 }
 
 /// Data for another activity goes to the kernel. Data for none, a read or a write, is dropped.
+#[inline(always)]
 fn bounced(packet: Packet) -> TileDid
     ensures { (t : Tile) → Does result t (bounced t packet (target packet)) }
 {
@@ -218,6 +229,7 @@ impl TilePart {
     }
 
     /// The context of the current activity.
+    #[inline(always)]
     pub fn current(&self) -> Option<&Context>
         ensures { option_copied result ≡ self.now.current }
     {
@@ -225,7 +237,7 @@ impl TilePart {
     }
 
     /// The activity makes a command. It is idle where the activity isn't the current one, and then where the command
-    /// has to wait for one that flies. Want of memory changes nothing.
+    /// has to wait for one that flies. Out of memory, it changes nothing.
     pub fn command(
         &mut self,
         alloc: Global,
@@ -254,6 +266,7 @@ impl TilePart {
     }
 
     /// Whether the packet is for the current activity.
+    #[inline(always)]
     fn is_for(&self, packet: &Packet) -> bool
         ensures { result ≡ is_here (target packet.now) (act_in self.now.current) }
     {
@@ -264,6 +277,7 @@ impl TilePart {
     }
 
     /// Whether this activity is the current one.
+    #[inline(always)]
     fn runs(&self, act: ActId) -> bool
         ensures { result ≡ runs act self.now.current }
     {
@@ -304,7 +318,8 @@ impl TilePart {
     /// This activity runs here with its context, where nobody runs, it has its home here, the context is its own, and the
     /// context may come back.
     fn restore(&mut self, site: &Site, act: ActId, context: Context) -> TileDid
-        ensures { (heard : List Heard) → Does result self.new (take_restore site.now self.old act context heard self.old.current) }
+        ensures { (heard : List Heard) → Does result self.new (take_restore site.now self.old act
+            context heard self.old.current) }
     {
         let owner = context.act();
         if self.current.is_some() || !may_return(site, act, &context) || !self.houses(owner) {
@@ -332,6 +347,7 @@ impl TilePart {
     /// The tile takes data. Data for its current activity arrives there where it fits and names activities of the setup
     /// alone, and is dropped else, as if the link were empty. Data for another activity bounces to the kernel. A read or
     /// a write is for none, and is dropped. It takes no memory.
+    #[inline(always)]
     pub fn take_data(&mut self, site: &Site, packet: Packet) -> TileDid
         ensures { Does result self.new (take_data site.now self.old packet) }
     {

@@ -1,14 +1,15 @@
 //! Switches.
 
-ghost use Rattle.std.specs.Prelude.{◌≡◌};
+ghost use Rattle.std.specs.Prelude.{◌≡◌, ◌≢◌, Ok, Err};
 ghost use Rattle.m3_model.specs.Kernel.Step.{entry_of, switch};
 ghost use Rattle.m3_kernel.specs.KernelStateView.{kernel_in, IsKept};
-ghost use Rattle.m3_kernel.specs.StepContracts.{Does, Judges, IsSwitch, LeaverAt};
+ghost use Rattle.m3_kernel.specs.OrderAnswers.{Orders};
+ghost use Rattle.m3_kernel.specs.StepContracts.{Judges, IsSwitch, LeaverAt};
+ghost use Rattle.m3_kernel.specs.declared.order.OrderRefusal.{OrderRefusal};
 
-use crate::done::{Done, says};
+use crate::order::{OrderRefusal, Ordered};
 use crate::seat::Place;
 use crate::state::State;
-use m3_base::event::{No, Said};
 use m3_base::ids::{ActId, TileId};
 use m3_core::parcel::{Emit, Parcel};
 
@@ -21,22 +22,23 @@ pub struct Switch {
 
 impl State {
     /// Who leaves the tile and who comes by a switch, or why it is refused.
-    fn judge(&self, tile: TileId, act: ActId) -> Result<Switch, No>
+    fn judge(&self, tile: TileId, act: ActId) -> Result<Switch, OrderRefusal>
         requires { IsKept self.now }
-        ensures { Judges self.now tile act result }
+        ensures judges { Judges self.now tile act result }
+        ensures memory { result ≢ Err OrderRefusal.NoMemory }
     {
         let Some(comes) = self.place(act.number()) else {
-            return Err(No::NotHome);
+            return Err(OrderRefusal::NotHome);
         };
         if self.site.tile_of(act.number()) != tile {
-            return Err(No::NotHome);
+            return Err(OrderRefusal::NotHome);
         }
         match self.seats[comes].place() {
-            Place::Placed => Err(No::Already),
-            Place::Coming => Err(No::Already),
-            Place::Leaving => Err(No::Leaving),
+            Place::Placed => Err(OrderRefusal::Already),
+            Place::Coming => Err(OrderRefusal::Already),
+            Place::Leaving => Err(OrderRefusal::Leaving),
             Place::Resting => match self.leaver(tile) {
-                None => Err(No::Leaving),
+                None => Err(OrderRefusal::Leaving),
                 Some(leaves) => Ok(Switch { leaves, comes }),
             },
         }
@@ -59,12 +61,13 @@ impl State {
     }
 
     /// The switch is carried out: Save goes to who leaves.
-    fn swap(&mut self, tile: TileId, act: ActId, pair: Switch) -> Done
+    fn swap(&mut self, tile: TileId, act: ActId, pair: Switch) -> Ordered
         requires kept { IsKept self.old }
         requires allowed { IsSwitch self.old tile act pair }
         ensures kept { IsKept self.new }
         ensures site { self.new.site ≡ self.old.site }
-        ensures does { Does result (kernel_in self.new) (switch self.old.site (kernel_in self.old) tile (entry_of act (kernel_in self.old))) }
+        ensures orders { Orders (Ok result) (kernel_in self.old) (kernel_in self.new)
+            (switch self.old.site (kernel_in self.old) tile (entry_of act (kernel_in self.old))) }
     {
         let Switch { leaves, comes } = pair;
         let leaver = self.seats[leaves].act();
@@ -74,19 +77,22 @@ impl State {
         berth.leaving = Some(leaves);
         berth.there = Some(comes);
         let parcel = Parcel::Save(leaver);
-        says(Said::Save(leaver), Some(Emit { to: tile, parcel }))
+        Ordered::Save {
+            leaving: leaver,
+            emit: Emit { to: tile, parcel },
+        }
     }
 
     /// The activity is to come to the tile, for who is there.
-    pub fn switch(&mut self, tile: TileId, act: ActId) -> Done
+    pub fn switch(&mut self, tile: TileId, act: ActId) -> Result<Ordered, OrderRefusal>
         requires { IsKept self.old }
         ensures kept { IsKept self.new }
         ensures site { self.new.site ≡ self.old.site }
-        ensures does { Does result (kernel_in self.new) (switch self.old.site (kernel_in self.old) tile (entry_of act (kernel_in self.old))) }
+        ensures orders { Orders result (kernel_in self.old) (kernel_in self.new)
+            (switch self.old.site (kernel_in self.old) tile (entry_of act (kernel_in self.old))) }
+        ensures memory { result ≢ Err OrderRefusal.NoMemory }
     {
-        match self.judge(tile, act) {
-            Err(why) => says(Said::No(why), None),
-            Ok(pair) => self.swap(tile, act, pair),
-        }
+        let pair = self.judge(tile, act)?;
+        Ok(self.swap(tile, act, pair))
     }
 }

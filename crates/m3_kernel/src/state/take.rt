@@ -69,7 +69,9 @@ impl State {
         requires { IsKept self.old }
         ensures kept { IsKept self.new }
         ensures site { self.new.site ≡ self.old.site }
-        ensures does { Does result (kernel_in self.new) (take_saved self.old.site (kernel_in self.old) context waiting ended (entry_of context.act (kernel_in self.old))) }
+        ensures does { Does result (kernel_in self.new)
+            (take_saved self.old.site (kernel_in self.old) context waiting ended
+            (entry_of context.act (kernel_in self.old))) }
     {
         let Some(at) = self.place(context.act().number()) else {
             return dropped();
@@ -87,7 +89,9 @@ impl State {
         requires leaves { IsLeavingAt (kernel_in self.old) at }
         ensures kept { IsKept self.new }
         ensures site { self.new.site ≡ self.old.site }
-        ensures does { Does result (kernel_in self.new) (take_saved self.old.site (kernel_in self.old) context waiting ended (entry_of context.act (kernel_in self.old))) }
+        ensures does { Does result (kernel_in self.new)
+            (take_saved self.old.site (kernel_in self.old) context waiting ended
+            (entry_of context.act (kernel_in self.old))) }
     {
         let act = context.act();
         let tile = self.site.tile_of(act.number());
@@ -100,7 +104,9 @@ impl State {
         requires { IsKept self.old }
         ensures kept { IsKept self.new }
         ensures site { self.new.site ≡ self.old.site }
-        ensures does { Does result (kernel_in self.new) (take_yield self.old.site (kernel_in self.old) act (entry_of act (kernel_in self.old))) }
+        ensures does { Does result (kernel_in self.new)
+            (take_yield self.old.site (kernel_in self.old) act (entry_of act (kernel_in
+            self.old))) }
     {
         let Some(at) = self.place(act.number()) else {
             return dropped();
@@ -120,7 +126,8 @@ impl State {
         requires { IsKept self.old }
         ensures kept { IsKept self.new }
         ensures site { self.new.site ≡ self.old.site }
-        ensures does { Does result (kernel_in self.new) (take_closed (kernel_in self.old) grant (grant_in (kernel_in self.old).grants grant)) }
+        ensures does { Does result (kernel_in self.new)
+            (take_closed (kernel_in self.old) grant (grant_in (kernel_in self.old).grants grant)) }
     {
         if !self.grants.awaits_closed(grant) {
             return dropped();
@@ -129,13 +136,14 @@ impl State {
         says(Said::Done { grant, revoked }, None)
     }
 
-    /// The kernel takes a parcel, or drops it where it doesn't fit. Want of memory changes nothing and gives the parcel
+    /// The kernel takes a parcel, or drops it where it doesn't fit. Out of memory, it changes nothing and gives the parcel
     /// back.
     pub fn take(&mut self, parcel: Parcel) -> Result<Done, (Parcel, AllocError)>
         requires { IsKept self.old }
         ensures kept { IsKept self.new }
         ensures site { self.new.site ≡ self.old.site }
-        ensures ok { IfOk result (λ d. Does d (kernel_in self.new) (kernel_take self.old.site (kernel_in self.old) (parcel_of parcel))) }
+        ensures ok { IfOk result (λ d. Does d (kernel_in self.new)
+            (kernel_take self.old.site (kernel_in self.old) (parcel_of parcel))) }
         ensures err { OnErr result (kernel_in self.new ≡ kernel_in self.old) }
         ensures given_back { IfErr result (λ e. e.0 ≡ parcel) }
     {

@@ -130,7 +130,7 @@ impl State {
         Ok(self.apply(act, at, back, heard))
     }
 
-    /// The front of an activity's hold list is applied. Want of memory changes nothing.
+    /// The front of an activity's hold list is applied. Out of memory, it changes nothing.
     pub fn tend(&mut self, alloc: Global, act: ActId) -> Result<Done, AllocError>
         requires { IsKept self.old }
         ensures kept { IsKept self.new }

@@ -1,28 +1,40 @@
-use Rattle.std.proofs.Common.{◌≡◌, ℕ, ◌∙◌, ◌++◌, [], ap, sym, subst, List, Option, None}
+use Rattle.std.proofs.Common.{◌≡◌, ℕ, ◌∙◌, ap, refl, None, List, Option, length}
+use Rattle.std.proofs.lemmas.List.{length-replicate}
 use Rattle.std.specs.Borrow.{Bor}
 use Rattle.m3_base.specs.Ideal.Context.{Context}
-use Rattle.m3_core.specs.declared.parcel.Parcel.{Parcel as CodeParcel}
 use Rattle.m3_kernel.specs.ParcelView.{parcels_of}
 use Rattle.m3_kernel.specs.ActivityView.{seats_of}
-use Rattle.m3_model.specs.Abstraction.{flat_map, flat_links, tile_contexts, entry_contexts, held_by, contexts_in, packets_in}
-use Rattle.m3_machine.specs.CreditCounts.{listed, last_of, Counts}
-use Rattle.m3_machine.specs.AuditView.{contexts_of, packets_of}
-use Rattle.m3_machine.proofs.CountCredits.{counts_both, tallied}
+use Rattle.m3_machine.specs.CreditCounts.{listed, last_of}
+use Rattle.m3_machine.specs.Traversal.{contexts_of, packets_of}
+use Rattle.m3_machine.proofs.CountCredits.{tallied, counts_by_none, counts_by_both}
+use Rattle.m3_machine.proofs.InsertContexts.{nobody_listed, enters_none_whole, enters_both_whole}
 use Rattle.m3_machine.proofs.audit.counted.Goals as goal
+
+pub visit_all-requires : goal.visit_all-requires
+visit_all-requires c k = (
+  (refl, tt),
+  record {
+    none = λ v. enters_none_whole v.contexts.items;
+    both = λ cs ds ps qs a b d j l. enters_both_whole cs ds a.contexts.items b.contexts.items d.contexts.items j l;
+  },
+)
+
+pub visit_all-requires-2 : goal.visit_all-requires-2
+visit_all-requires-2 c k = (
+  (refl, tt),
+  record {
+    none = λ v. counts_by_none v.contexts.contexts.items v.counts;
+    both = λ cs ds ps qs a b d j l. counts_by_both cs ds ps qs a.contexts.contexts.items b.contexts.contexts.items d.contexts.contexts.items a.counts b.counts d.counts j l;
+  },
+)
 
 pub returns : goal.returns
 returns c =
-    let find = listed c.deref.result.now in
-    let on_tiles = flat_map tile_contexts c.args.tiles.now in
     let seats = seats_of c.args.seats.now in
     let links = parcels_of c.args.links.now.lists in
-    let found : (a : ℕ) → find a ≡ last_of None a (contexts_of c.args.tiles.now seats links) = λ a. ap (λ (v : List (Option (Bor Context))). listed v a) c.deref.ensures.value ∙ c.in_ok-roster.ensures.found a in
-    let kernel : Counts find (flat_map entry_contexts seats) (flat_map held_by seats) c.tiles.new.self c.seats.new.self = c.seats.ensures in
-    let then' : Counts find (flat_links contexts_in links) (flat_links packets_in links) c.seats.new.self c.links.new.self =
-    subst (λ (v : List (Option (Bor Context))). Counts (listed v) (flat_links contexts_in links) (flat_links packets_in links) c.seats.new.self c.links.new.self) (c.deref-2.ensures.value ∙ sym c.deref.ensures.value)
-    (subst (λ (l : List (List CodeParcel)). Counts (listed c.deref-2.result.now) (flat_links contexts_in (parcels_of l)) (flat_links packets_in (parcels_of l)) c.seats.new.self c.links.new.self) c.all.ensures c.links.ensures) in
-    tallied find (contexts_of c.args.tiles.now seats links) (packets_of seats links) c.in_ok-tally.tally c.links.new.self c.in_ok-tally.ensures.held c.in_ok-tally.ensures.flying c.in_ok-tally.ensures.queued found
-    (
-    counts_both find on_tiles (flat_map entry_contexts seats ++ flat_links contexts_in links) [] (packets_of seats links) c.in_ok-tally.tally c.tiles.new.self c.links.new.self (c.tiles.ensures find)
-    (counts_both find (flat_map entry_contexts seats) (flat_links contexts_in links) (flat_map held_by seats) (flat_links packets_in links) c.tiles.new.self c.seats.new.self c.links.new.self kernel then')
-    )
+    let cs = contexts_of c.args.tiles.now seats links in
+    let table = c.visit_all.new.visitor.contexts.items in
+    let entered = c.visit_all.ensures (ap length c.in_ok-contexts.ensures ∙ length-replicate {A = Option (Bor Context)} 256 None) in
+    let found : (a : ℕ) → listed table a ≡ last_of None a cs =
+    λ a. entered.found a ∙ ap (λ o. last_of o a cs) (ap (λ (v : List (Option (Bor Context))). listed v a) c.in_ok-contexts.ensures ∙ nobody_listed 256 a) in
+    tallied (listed table) cs (packets_of seats links) c.in_ok-counts.counts c.visit_all-2.new.visitor.counts c.in_ok-counts.ensures.held c.in_ok-counts.ensures.flying c.in_ok-counts.ensures.queued found c.visit_all-2.ensures.1

@@ -1,7 +1,7 @@
 use Rattle.std.proofs.Common.{◌≡◌, ◌+◌, ◌∙◌, ap, drop, length, length-append, arith}
 use Rattle.m3_kernel.specs.ActivityView.{seat_value, seats_of}
 use Rattle.m3_model.specs.Abstraction.{flat_map, held_by}
-use Rattle.m3_machine.proofs.InsertContexts.{seats_more}
+use Rattle.m3_machine.proofs.TraversalSteps.{seats_more}
 use Rattle.m3_machine.proofs.audit.flights.Goals as goal
 
 pub loop-seat-preserved : goal.loop-seat-preserved

@@ -6,8 +6,8 @@ use Rattle.m3_kernel.specs.StepContracts.{IsSeatOf}
 use Rattle.m3_kernel.proofs.PerformSwitch.{is_switch}
 use Rattle.m3_kernel.proofs.state.State.judge.Goals as goal
 
-pub returns-in-Some-leaver : goal.returns-in-Some-leaver
-returns-in-Some-leaver c =
+pub returns-in-Some-leaver-clause-judges : goal.returns-in-Some-leaver-clause-judges
+returns-in-Some-leaver-clause-judges c =
     let s = c.args.self.now in
     let comes : IsSeatOf (kernel_in s) c.args.act c.in-Some.comes = subst (λ (n : ℕ). IsSeatOf (kernel_in s) n c.in-Some.comes) c.number.ensures.same c.in-Some.ensures in
     let home : tile_of s.site c.args.act ≡ c.args.tile = (let e = c.ne.ensures in let f = c.if-ne.false in let g = c.tile_of.ensures in let n = c.number-2.ensures.same in grind (arith, nat_tests)) in

@@ -1,11 +1,8 @@
-use Rattle.std.proofs.Common.{◌≡◌, ℕ, ◌+◌, List, [], ◌∷◌, ◌++◌, length, length-append, min, is_none, ◌∙◌, ap, sym, subst, arith}
+use Rattle.std.proofs.Common.{◌≡◌, ℕ, ◌+◌, [], ◌∷◌, ◌++◌, length, length-append, min, is_none, ◌∙◌, ap, sym, subst, arith}
 use Rattle.m3_base.specs.declared.journal.AuditLine.{AuditLine}
 use Rattle.m3_base.specs.Journal.Audit.{audit_lines}
 use Rattle.m3_base.specs.Placement.Driver as driver
 use Rattle.m3_endpoint.specs.Counters.{most}
-use Rattle.m3_model.specs.Parcel.{Parcel}
-use Rattle.m3_model.specs.Kernel.State.{ActivityEntry}
-use Rattle.m3_model.specs.Tile.State.{Tile}
 use Rattle.m3_kernel.specs.ParcelView.{parcels_of}
 use Rattle.m3_kernel.specs.ActivityView.{seats_of}
 use Rattle.m3_link.specs.LinkOps.{data_on}
@@ -13,7 +10,8 @@ use Rattle.m3_model.specs.Abstraction.{ideal_of, placement_of, flat_map, flat_li
 use Rattle.m3_trace.specs.DriverOfMachine.{tile_lines}
 use Rattle.m3_trace.specs.Opening.{site}
 use Rattle.m3_trace.proofs.TraceGrows.{trace_few}
-use Rattle.m3_machine.specs.AuditView.{live_lines, contexts_of, packets_of}
+use Rattle.m3_machine.specs.AuditView.{live_lines}
+use Rattle.m3_machine.specs.Traversal.{contexts_of, packets_of}
 use Rattle.m3_machine.specs.MachineView.{MachineValue, ideal, placement}
 use Rattle.m3_machine.proofs.AuditIsIdeal.{audited}
 use Rattle.m3_machine.proofs.TileLines.{all_lines, is_none_from}

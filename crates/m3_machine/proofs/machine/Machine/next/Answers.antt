@@ -9,5 +9,5 @@ pub returns : goal.returns
 returns c =
     let m = c.self.inside in
     subst (λ (w : MachineValue). c.next.result ≡ next_event (ideal w) (placement w) []) c.self.view_is (
-    c.next.ensures ∙ next_kept (site m.journal.setup) m.engine.machine c.self.invariant.trace.ran.kept
+    c.next.ensures ∙ next_kept (site m.journal.setup) m.engine.machine c.self.invariant.trace.ran.kept c.self.invariant.trace.programs
     )

@@ -12,7 +12,7 @@ step-requires c =
     let own : NamesActs s c.args.event = subst (λ (w : MachineValue). NamesActs w.setup c.args.event) (sym c.self.view_is) c.requires in
     record {
       declared = subst (λ (h : Site). IsOfSetup h c.args.event) (sym c.self.invariant.site) (of_setup s c.self.invariant.trace.valid c.args.event own);
-      able = can_make s c.self.inside.journal.entries.items c.self.inside.engine.machine c.self.invariant.trace;
+      able = can_make s c.self.inside.journal.entries.items c.self.inside.engine c.self.invariant.site c.self.invariant.trace;
     }
 
 pub invariant_of-self-2 : goal.invariant_of-self-2
