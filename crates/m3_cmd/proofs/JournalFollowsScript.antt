@@ -12,9 +12,9 @@ use Rattle.m3_base.specs.Setup.Rules.{SetupValue}
 use Rattle.m3_base.specs.Io.Streams.{ReadsAll}
 use Rattle.m3_trace.specs.Opening.{entry}
 use Rattle.m3_machine.specs.MachineView.{MachineValue, ideal, placement, NamesActs, IsStep}
-use Rattle.m3_script.specs.Rules.{AllNamed, names_undeclared, is_absent, has_program}
+use Rattle.m3_script.specs.Rules.{AllInRanges, AllNamed, IsInRanges, names_undeclared, is_absent, has_program}
 use Rattle.m3_cmd.specs.Statuses.{AreOfSetup, Follows, IsTextAt, IsTextOf, OfBytes, event_of}
-use Rattle.m3_machine.proofs.ContextTable.{first_free, then_free}
+use Rattle.std.proofs.lemmas.Bool.{or_parts}
 
 pub none_made : (m : MachineValue) → Follows m [] m
 none_made m = record { same = refl; made = []; added = sym (append-nil m.entries); follows = refl }
@@ -36,19 +36,19 @@ first_of s e es are = are 0 e (omega arith)
 
 -- ---- what a script names is of its setup
 
-named_one : (s : SetupValue) (e : Event) → names_undeclared e s ≡ false → NamesActs s e
-named_one s (Event.Do a c) e = first_free (is_absent a s) (has_program a s) e
-named_one s (Event.Turn a) e = tt
-named_one s (Event.Take to from) e = tt
-named_one s (Event.Tend a) e = e
-named_one s Event.Close e = tt
-named_one s (Event.Order (Order.Switch t a)) e = then_free (not (nat_lt t s.tiles)) (is_absent a s) e
-named_one s (Event.Order (Order.Grant line)) e = tt
-named_one s (Event.Order (Order.Revoke g)) e = tt
-named_one s (Event.File l) e = tt
+named_one : (s : SetupValue) (e : Event) → names_undeclared e s ≡ false → IsInRanges e → NamesActs s e
+named_one s (Event.Do a c) named ranges = (or_parts (is_absent a s) (has_program a s) named).0
+named_one s (Event.Turn a) named ranges = tt
+named_one s (Event.Take to from) named ranges = tt
+named_one s (Event.Tend a) named ranges = named
+named_one s Event.Close named ranges = tt
+named_one s (Event.Order (Order.Switch t a)) named ranges = (or_parts (not (nat_lt t s.tiles)) (is_absent a s) named).1
+named_one s (Event.Order (Order.Grant line)) named ranges = (named, ranges)
+named_one s (Event.Order (Order.Revoke g)) named ranges = tt
+named_one s (Event.File l) named ranges = tt
 
-pub named_of : (s : SetupValue) (es : List Event) → AllNamed s es → AreOfSetup s es
-named_of s es named k d within = named_one s (get_or es k d) (named k d within)
+pub named_of : (s : SetupValue) (es : List Event) → AllNamed s es → AllInRanges es → AreOfSetup s es
+named_of s es named ranges k d within = named_one s (get_or es k d) (named k d within) (ranges k d within)
 
 -- ---- from the opening
 

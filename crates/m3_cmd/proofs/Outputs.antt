@@ -24,13 +24,13 @@ pub most_more : (P Q : ℕ → List ℕ → Type 0) (old new : Option (List ℕ)
 most_more P Q old new f (inl none) = inl none
 most_more P Q old new f (inr some) = inr (some_more P Q old new f some)
 
--- `finish` writes the whole of what it is handed, and answers the status
-pub finish_all : (Is : ℕ → List ℕ → Type 0) (status result : ℕ) (bytes : List ℕ) (old new : Option (List ℕ)) → Is status bytes → (result ≡ status) × Appends old new bytes → WritesAll (Is result) old new
-finish_all Is status result bytes old new is w = record { text = bytes; output = subst (λ (s : ℕ). Is s bytes) (sym w.0) is; written = w.1 }
+-- `write_output` writes the whole of what it is handed, and answers the status
+pub output_all : (Is : ℕ → List ℕ → Type 0) (status result : ℕ) (bytes : List ℕ) (old new : Option (List ℕ)) → Is status bytes → (result ≡ status) × Appends old new bytes → WritesAll (Is result) old new
+output_all Is status result bytes old new is w = record { text = bytes; output = subst (λ (s : ℕ). Is s bytes) (sym w.0) is; written = w.1 }
 
 -- where its sink fails, a prefix
-pub finish_some : (Is : ℕ → List ℕ → Type 0) (status : ℕ) (bytes : List ℕ) (old new : Option (List ℕ)) → Is status bytes → AppendsSome old new bytes → WritesSome Is old new
-finish_some Is status bytes old new is part = record { status = status; text = bytes; output = is; part = part }
+pub output_some : (Is : ℕ → List ℕ → Type 0) (status : ℕ) (bytes : List ℕ) (old new : Option (List ℕ)) → Is status bytes → AppendsSome old new bytes → WritesSome Is old new
+output_some Is status bytes old new is part = record { status = status; text = bytes; output = is; part = part }
 
 -- ---- which status is due
 

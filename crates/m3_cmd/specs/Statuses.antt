@@ -39,7 +39,7 @@ most_bytes = 1048576
 abbrev pub event_of : Entry → Event
 event_of e = e.event
 
--- each event names activities of the setup
+-- each event names activities of the setup, and the numbers of a grant are in their ranges
 abbrev pub AreOfSetup : SetupValue → List Event → Type 0
 AreOfSetup s events = All (NamesActs s) events
 

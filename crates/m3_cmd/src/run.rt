@@ -2,7 +2,7 @@
 
 ghost use Rattle.std.specs.Prelude.{◌≡◌, ◌≢◌, ◌⊎◌, ◌≤◌, ◌∷◌, [], length, OnOk, IfOk, Some, None};
 ghost use Rattle.m3_base.specs.Io.Streams.{Rose, Appends, AppendsSome, GivesMore, GivesUpTo};
-ghost use Rattle.m3_script.specs.Rules.{AllNamed};
+ghost use Rattle.m3_script.specs.Rules.{AllInRanges, AllNamed};
 ghost use Rattle.m3_script.specs.declared.script.Mode.{Mode};
 ghost use Rattle.m3_script.specs.ScriptText.{script_of};
 ghost use Rattle.m3_cmd.specs.declared.words.Form.{Form};
@@ -27,7 +27,7 @@ const USAGE: &[u8] =
     b"usage: m3x run [--json] | auto [--json] | tiles [--json] | check | show | load N\n";
 
 /// Makes the events, one after the other.
-fn make(alloc: Global, machine: &mut Machine, events: Vec<Event>) -> Result<(), StepRefusal>
+fn step_all(alloc: Global, machine: &mut Machine, events: Vec<Event>) -> Result<(), StepRefusal>
     requires { AreOfSetup machine.old.setup events.items }
     ensures { OnOk result (Follows machine.old events.items machine.new) }
 {
@@ -38,7 +38,7 @@ fn make(alloc: Global, machine: &mut Machine, events: Vec<Event>) -> Result<(), 
 }
 
 /// The text of a machine's journal.
-fn printed(alloc: Global, machine: &Machine) -> Result<Vec<u8>, AllocError>
+fn journal_text(alloc: Global, machine: &Machine) -> Result<Vec<u8>, AllocError>
     ensures { IfOk result (λ v. IsTextAt machine.now v.items) }
 {
     let audit = machine.audit(alloc)?;
@@ -46,20 +46,22 @@ fn printed(alloc: Global, machine: &Machine) -> Result<Vec<u8>, AllocError>
 }
 
 /// The text of the journal of a machine that made the script's events.
-fn text_of(alloc: Global, script: Script) -> Result<Vec<u8>, StepRefusal>
-    requires { AllNamed script.setup script.events.items }
+fn run_to_text(alloc: Global, script: Script) -> Result<Vec<u8>, StepRefusal>
+    requires named { AllNamed script.setup script.events.items }
+    requires ranges { AllInRanges script.events.items }
     ensures { IfOk result (λ v. IsTextOf script.setup script.events.items v.items) }
 {
     let Script { setup, events } = script;
     let mut machine = Machine::open(alloc, setup)?;
-    make(alloc, &mut machine, events)?;
-    Ok(printed(alloc, &machine)?)
+    step_all(alloc, &mut machine, events)?;
+    Ok(journal_text(alloc, &machine)?)
 }
 
 /// Writes the bytes, and answers the status, or 4 where the sink failed.
-pub fn finish<K: Sink>(sink: &mut K, bytes: &[u8], status: u8) -> u8
+pub fn write_output<K: Sink>(sink: &mut K, bytes: &[u8], status: u8) -> u8
     ensures written { result ≢ 4 → (result ≡ status) × Appends (K.written sink.old) (K.written sink.new) bytes.now }
-    ensures fault { status ≢ 4 → result ≡ 4 → Rose (K.faults sink.old) (K.faults sink.new) × AppendsSome (K.written sink.old) (K.written sink.new) bytes.now }
+    ensures fault { status ≢ 4 → result ≡ 4 → Rose (K.faults sink.old) (K.faults sink.new) ×
+        AppendsSome (K.written sink.old) (K.written sink.new) bytes.now }
 {
     match write_all(sink, bytes) {
         Ok(()) => status,
@@ -81,10 +83,10 @@ fn run_script<K: Sink>(alloc: Global, bytes: &[u8], sink: &mut K) -> u8
 {
     match parse(alloc, bytes, Mode::Run, 0) {
         Err(ScriptRefusal::NoMemory) => 5,
-        Err(ScriptRefusal::Bad { .. }) => finish(sink, b"bad script\n", 2),
-        Ok(script) => match text_of(alloc, script) {
+        Err(ScriptRefusal::Bad { .. }) => write_output(sink, b"bad script\n", 2),
+        Ok(script) => match run_to_text(alloc, script) {
             Err(_) => 5,
-            Ok(text) => finish(sink, text.as_slice(), 0),
+            Ok(text) => write_output(sink, text.as_slice(), 0),
         },
     }
 }
@@ -153,10 +155,10 @@ pub fn run_words<S: Source, K: Sink>(
     ensures statuses { IsOneOf (0 ∷ 1 ∷ 2 ∷ 3 ∷ 4 ∷ 5 ∷ 8 ∷ []) result }
 {
     match read_form(words) {
-        None => finish(sink, USAGE, 1),
+        None => write_output(sink, USAGE, 1),
         Some(form) => match read_all(alloc, source, MOST_BYTES) {
-            Err(ReadRefusal::ReadFault) => finish(sink, b"read fault\n", 3),
-            Err(ReadRefusal::TooLong) => finish(sink, b"too long\n", 8),
+            Err(ReadRefusal::ReadFault) => write_output(sink, b"read fault\n", 3),
+            Err(ReadRefusal::TooLong) => write_output(sink, b"too long\n", 8),
             Err(ReadRefusal::NoMemory) => 5,
             Ok(bytes) => write_answer(alloc, form, bytes.as_slice(), sink),
         },

@@ -7,7 +7,7 @@ ghost use Rattle.m3_cmd.specs.Statuses.{IsOneOf, most_bytes};
 ghost use Rattle.m3_cmd.specs.ShowContract.{IsNamed, IsNext, IsNone, IsRefusalLine, IsShowAnswer, IsShown, IsWhy, bad_byte_line, kind_word, packet_line, place_of, refused_after};
 ghost use Rattle.m3_cmd.specs.Writing.{WritesAll, WritesAtMost, WritesSome};
 
-use crate::run::finish;
+use crate::run::write_output;
 use m3_base::packet::Packet;
 use m3_base::stream::Sink;
 use m3_journal::put_packet;
@@ -122,7 +122,7 @@ fn refuse<K: Sink>(alloc: Global, why: ShowRefusal, sink: &mut K) -> u8
         ShowRefusal::NoMemory => 5,
         ShowRefusal::Bad { before, refusal } => match bad_byte_line(alloc, before, refusal) {
             Err(_) => 5,
-            Ok(text) => finish(sink, text.as_bytes(), 2),
+            Ok(text) => write_output(sink, text.as_bytes(), 2),
         },
     }
 }
@@ -141,6 +141,6 @@ pub fn show_input<K: Sink>(alloc: Global, bytes: &[u8], sink: &mut K) -> u8
 {
     match lines_of(alloc, bytes) {
         Err(why) => refuse(alloc, why, sink),
-        Ok(text) => finish(sink, text.as_bytes(), 0),
+        Ok(text) => write_output(sink, text.as_bytes(), 0),
     }
 }

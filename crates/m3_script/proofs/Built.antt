@@ -5,16 +5,15 @@ use Rattle.std.specs.Str.{bytes_eq}
 use Rattle.std.proofs.lemmas.Slice.Eq.{bytes_eq-Decides}
 use Rattle.m3_base.specs.declared.event.Event.{Event}
 use Rattle.m3_base.specs.declared.order.GrantLine.{GrantLine}
-use Rattle.m3_base.specs.declared.order.Order.{Order}
 use Rattle.m3_base.specs.declared.setup_line.SetupLine.{SetupLine}
 use Rattle.m3_text.specs.declared.hexes.HexCase.{HexCase}
 use Rattle.m3_text.specs.declared.refusal.Why.{Why}
 use Rattle.m3_text.specs.Refusable.{◌>>=◌}
-use Rattle.m3_text.specs.LineForm.{count_test}
+use Rattle.m3_text.specs.LineForm.{word, count_test}
 use Rattle.m3_script.specs.declared.line.Line.{Line}
 use Rattle.m3_script.specs.Built.{EventsOfScripts, SetupsOfScripts}
-use Rattle.m3_script.specs.Events.{take_of, do_of, tend_of, switch_of, order_of, event_of}
-use Rattle.m3_script.specs.LineForms.{line_of, opening_of}
+use Rattle.m3_script.specs.Events.{event_of}
+use Rattle.m3_script.specs.LineForms.{begins_event, line_of, opening_of}
 use Rattle.m3_script.specs.Grants.{grant_of}
 use Rattle.m3_script.specs.Setups.{machine_of, act_of, setup_line_of}
 use Rattle.m3_script.proofs.SetupsAgain.{grant_line_again}
@@ -32,11 +31,6 @@ decide {P = P} w k is isnt = go (bytes_eq w k) refl
 event_under : (r : Result Event Why) (event : Event) → (r >>= λ x. Ok (Line.Event x)) ≡ Ok (Line.Event event) → r ≡ Ok event
 event_under (Ok x) event e = cc
 event_under (Err w) event e = absurd cc
-
-order_under : (r : Result Order Why) (event : Event) → (r >>= λ x. Ok (Line.Event (Event.Order x))) ≡ Ok (Line.Event event)
-    → (r >>= λ x. Ok (Event.Order x)) ≡ Ok event
-order_under (Ok x) event e = cc
-order_under (Err w) event e = absurd cc
 
 setup_under : (r : Result SetupLine Why) (line : SetupLine) → (r >>= λ x. Ok (Line.Setup x)) ≡ Ok (Line.Setup line) → r ≡ Ok line
 setup_under (Ok x) line e = cc
@@ -75,10 +69,6 @@ event_no_setup : (r : Result Event Why) (line : SetupLine) → (r >>= λ x. Ok (
 event_no_setup (Ok x) line e = absurd cc
 event_no_setup (Err w) line e = absurd cc
 
-order_no_setup : (r : Result Order Why) (line : SetupLine) → (r >>= λ x. Ok (Line.Event (Event.Order x))) ≡ Ok (Line.Setup line) → ⊥
-order_no_setup (Ok x) line e = absurd cc
-order_no_setup (Err w) line e = absurd cc
-
 -- ---- by the first word
 
 no_event : (w : List ℕ) (vs : List (List ℕ)) (event : Event) → opening_of (w ∷ vs) ≡ Ok (Line.Event event) → ⊥
@@ -98,22 +88,22 @@ opening_setup w vs line e =
     decide w (codes "begin") (λ is. absurd (begin_no_setup (count_test 0 vs) line (rw is at e))) (λ begin.
     grant_under (w ∷ vs) line (grant_of (w ∷ vs)) refl (rw (machine, act, begin) at e))))
 
+event_by : (b : Bool) (ws : List (List ℕ)) (event : Event) → begins_event (word 0 ws) ≡ b → line_of ws ≡ Ok (Line.Event event)
+    → event_of HexCase.Either ws ≡ Ok event
+unfolding line_of opening_of grant_of
+event_by true ws event begins e = event_under (event_of HexCase.Either ws) event (rw begins at e)
+event_by false [] event begins e = absurd cc
+event_by false (w ∷ vs) event begins e = absurd (no_event w vs event (rw begins at e))
+
 pub event_of_script : EventsOfScripts
-unfolding line_of opening_of event_of order_of grant_of
-event_of_script [] event e = absurd cc
-event_of_script (w ∷ vs) event e =
-    decide w (codes "take") (λ is. rw is (event_under (take_of vs) event (rw is at e))) (λ take.
-    decide w (codes "do") (λ is. rw is (event_under (do_of HexCase.Either vs) event (rw is at e))) (λ do_.
-    decide w (codes "tend") (λ is. rw is (event_under (tend_of vs) event (rw is at e))) (λ tend.
-    decide w (codes "switch") (λ is. rw is (order_under (switch_of vs) event (rw is at e))) (λ switch.
-    absurd (no_event w vs event (rw (take, do_, tend, switch) at e))))))
+event_of_script ws event e = event_by (begins_event (word 0 ws)) ws event refl e
+
+setup_by : (b : Bool) (ws : List (List ℕ)) (line : SetupLine) → begins_event (word 0 ws) ≡ b → line_of ws ≡ Ok (Line.Setup line)
+    → setup_line_of HexCase.Either ws ≡ Ok line
+unfolding line_of opening_of grant_of
+setup_by true ws line begins e = absurd (event_no_setup (event_of HexCase.Either ws) line (rw begins at e))
+setup_by false [] line begins e = absurd cc
+setup_by false (w ∷ vs) line begins e = opening_setup w vs line (rw begins at e)
 
 pub setup_of_script : SetupsOfScripts
-unfolding line_of opening_of grant_of
-setup_of_script [] line e = absurd cc
-setup_of_script (w ∷ vs) line e =
-    decide w (codes "take") (λ is. absurd (event_no_setup (take_of vs) line (rw is at e))) (λ take.
-    decide w (codes "do") (λ is. absurd (event_no_setup (do_of HexCase.Either vs) line (rw is at e))) (λ do_.
-    decide w (codes "tend") (λ is. absurd (event_no_setup (tend_of vs) line (rw is at e))) (λ tend.
-    decide w (codes "switch") (λ is. absurd (order_no_setup (switch_of vs) line (rw is at e))) (λ switch.
-    opening_setup w vs line (rw (take, do_, tend, switch) at e)))))
+setup_of_script ws line e = setup_by (begins_event (word 0 ws)) ws line refl e

@@ -6,5 +6,6 @@ pub mod SetupsAgain
 pub mod EventsAgain
 pub mod Built
 pub mod WordLimit
+pub mod GrantRanges
 pub mod NamedEvents
 pub mod LineLoop

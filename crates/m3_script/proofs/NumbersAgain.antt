@@ -4,7 +4,8 @@ use Rattle.std.specs.Prelude.{decimal}
 use Rattle.m3_text.specs.Number.{number}
 use Rattle.m3_text.specs.ReadBack.{HexAgain}
 use Rattle.m3_text.proofs.ValuesAgain.{number_again, hex_of_again}
-use Rattle.m3_script.specs.InRange.{Within, ActInRange, EpInRange, IdInRange, WordInRange}
+use Rattle.m3_script.specs.InRange.{ActInRange, EpInRange, IdInRange, WordInRange}
+use Rattle.m3_base.specs.Limits.{Within}
 
 pub within_again : (low high n : ℕ) → high < 2 ^ 64 → Within low high n → number low high (decimal n) ≡ Ok n
 within_again low high n lt r = number_again low high n lt r.0 r.1

@@ -9,9 +9,7 @@ use Rattle.m3_base.specs.declared.order.Order.{Order}
 use Rattle.m3_base.specs.declared.setup_line.SetupLine.{SetupLine}
 use Rattle.m3_text.specs.Lines.{is_word}
 use Rattle.m3_text.specs.ReadBack.{BytesWithin}
-
-abbrev pub Within : ℕ → ℕ → ℕ → Type 0
-Within low high n = (low ≤ n) × (n ≤ high)
+use Rattle.m3_base.specs.Limits.{Within}
 
 abbrev pub ActInRange : ℕ → Type 0
 ActInRange act = Within 0 63 act

@@ -3,15 +3,15 @@ use Rattle.std.specs.Prelude.{◌≡◌, ℕ, Result, Ok, Err, ⊤}
 use Rattle.m3_text.specs.declared.refusal.LineRefusal.{LineRefusal}
 use Rattle.m3_text.specs.declared.refusal.Why.{Why}
 use Rattle.m3_text.specs.Refusable.{Fails}
-use Rattle.m3_script.specs.declared.reading.Progress.{Progress}
+use Rattle.m3_script.specs.declared.reading.ParserState.{ParserState}
 use Rattle.m3_script.specs.declared.script.Script.{Script}
 use Rattle.m3_script.specs.declared.script.ScriptRefusal.{ScriptRefusal}
 use Rattle.m3_script.specs.ScriptText.{ScriptValue, State, Empty, InSetup, Running, Refused}
 
-abbrev pub state : Progress → State
-state Progress.Nothing = Empty
-state (Progress.InSetup x) = InSetup x
-state (Progress.Running x events) = Running x events.items
+abbrev pub state : ParserState → State
+state ParserState.Empty = Empty
+state (ParserState.InSetup x) = InSetup x
+state (ParserState.Running x events) = Running x events.items
 
 -- `begin` is still to come
 abbrev pub IsBefore : State → Type 0
@@ -30,7 +30,7 @@ abbrev pub refusal : ℕ → LineRefusal → ScriptRefusal
 refusal n LineRefusal.NoMemory = ScriptRefusal.NoMemory
 refusal n (LineRefusal.Bad why) = ScriptRefusal.Bad n why
 
-abbrev pub Refuses : ScriptRefusal → Result ScriptValue Refused → Type 0
+abbrev pub Refuses : {X : Type 0} → ScriptRefusal → Result X Refused → Type 0
 Refuses ScriptRefusal.NoMemory given = ⊤
 Refuses (ScriptRefusal.Bad line why) given = given ≡ Err (record { line = line; why = why })
 

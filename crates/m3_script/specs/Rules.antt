@@ -1,11 +1,12 @@
 -- The rules of scripts that the lines before decide, beside those that every setup keeps.
-use Rattle.std.specs.Prelude.{◌≡◌, ℕ, Bool, true, false, not, ◌&&◌, ◌||◌, nat_lt, nat_le, List, length}
+use Rattle.std.specs.Prelude.{◌≡◌, ℕ, Bool, true, false, not, ◌&&◌, ◌||◌, nat_lt, nat_le, List, length, ⊤}
 use Rattle.std.specs.List.{All}
 use Rattle.m3_base.specs.declared.event.Event.{Event}
 use Rattle.m3_base.specs.declared.order.Order.{Order}
 use Rattle.m3_base.specs.declared.order.FileLine.{FileLine}
 use Rattle.m3_base.specs.declared.setup_line.SetupLine.{SetupLine}
 use Rattle.m3_base.specs.Ideal.State.{holder}
+use Rattle.m3_base.specs.Limits.{HasRanges}
 use Rattle.m3_base.specs.Setup.Rules.{SetupValue, facts_of, is_undeclared, is_programmed, program_in}
 use Rattle.m3_script.specs.declared.script.Mode.{Mode}
 
@@ -53,3 +54,11 @@ names_undeclared (Event.File line) x = file_names_undeclared line x
 -- each event names what the setup has
 abbrev pub AllNamed : SetupValue → List Event → Type 0
 AllNamed x events = All (λ e. names_undeclared e x ≡ false) events
+
+-- the numbers of a grant that is ordered are in their ranges; whether it is made is the kernel's to say
+abbrev pub IsInRanges : Event → Type 0
+IsInRanges (Event.Order (Order.Grant line)) = HasRanges line
+IsInRanges event = ⊤
+
+abbrev pub AllInRanges : List Event → Type 0
+AllInRanges events = All IsInRanges events

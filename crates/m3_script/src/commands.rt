@@ -19,6 +19,7 @@ const MOST_BYTES: usize = 8192;
 
 /// The command of these words.
 #[tactic(auto, unfolding(crate::specs::CommandForms::command_of))]
+#[inline(always)]
 pub fn read_command(alloc: Global, case: HexCase, words: &[&[u8]]) -> Result<Command, LineRefusal>
     ensures { Gives (λ c. c) result (command_of case (texts words.now)) }
 {
@@ -41,6 +42,7 @@ pub fn read_command(alloc: Global, case: HexCase, words: &[&[u8]]) -> Result<Com
 }
 
 #[tactic(auto, unfolding(crate::specs::CommandForms::any_send_of))]
+#[inline(always)]
 fn read_any_send(alloc: Global, case: HexCase, words: &[&[u8]]) -> Result<Command, LineRefusal>
     ensures { Gives (λ c. c) result (any_send_of case (texts words.now)) }
 {
@@ -53,6 +55,7 @@ fn read_any_send(alloc: Global, case: HexCase, words: &[&[u8]]) -> Result<Comman
 
 /// `send E HEX`
 #[tactic(auto, unfolding(crate::specs::CommandForms::send_of))]
+#[inline(always)]
 fn read_send(alloc: Global, case: HexCase, words: &[&[u8]]) -> Result<Command, LineRefusal>
     ensures { Gives (λ c. c) result (send_of case (texts words.now)) }
 {
@@ -68,6 +71,7 @@ fn read_send(alloc: Global, case: HexCase, words: &[&[u8]]) -> Result<Command, L
 
 /// `send E HEX reply R`
 #[tactic(auto, unfolding(crate::specs::CommandForms::call_of))]
+#[inline(always)]
 fn read_call(alloc: Global, case: HexCase, words: &[&[u8]]) -> Result<Command, LineRefusal>
     ensures { Gives (λ c. c) result (call_of case (texts words.now)) }
 {
@@ -84,6 +88,7 @@ fn read_call(alloc: Global, case: HexCase, words: &[&[u8]]) -> Result<Command, L
 
 /// `reply E K HEX`
 #[tactic(auto, unfolding(crate::specs::CommandForms::reply_of))]
+#[inline(always)]
 fn read_reply(alloc: Global, case: HexCase, words: &[&[u8]]) -> Result<Command, LineRefusal>
     ensures { Gives (λ c. c) result (reply_of case (texts words.now)) }
 {
@@ -96,6 +101,7 @@ fn read_reply(alloc: Global, case: HexCase, words: &[&[u8]]) -> Result<Command, 
 
 /// `fetch E`
 #[tactic(auto, unfolding(crate::specs::CommandForms::fetch_of))]
+#[inline(always)]
 fn read_fetch(words: &[&[u8]]) -> Result<Command, LineRefusal>
     ensures { Gives (λ c. c) result (fetch_of (texts words.now)) }
 {
@@ -106,6 +112,7 @@ fn read_fetch(words: &[&[u8]]) -> Result<Command, LineRefusal>
 
 /// `ack E K`
 #[tactic(auto, unfolding(crate::specs::CommandForms::acknowledge_of))]
+#[inline(always)]
 fn read_acknowledge(words: &[&[u8]]) -> Result<Command, LineRefusal>
     ensures { Gives (λ c. c) result (acknowledge_of (texts words.now)) }
 {
@@ -117,6 +124,7 @@ fn read_acknowledge(words: &[&[u8]]) -> Result<Command, LineRefusal>
 
 /// `read E OFF LEN`
 #[tactic(auto, unfolding(crate::specs::CommandForms::read_of))]
+#[inline(always)]
 fn read_read(words: &[&[u8]]) -> Result<Command, LineRefusal>
     ensures { Gives (λ c. c) result (read_of (texts words.now)) }
 {
@@ -129,6 +137,7 @@ fn read_read(words: &[&[u8]]) -> Result<Command, LineRefusal>
 
 /// `write E OFF HEX`
 #[tactic(auto, unfolding(crate::specs::CommandForms::write_of))]
+#[inline(always)]
 fn read_write(alloc: Global, case: HexCase, words: &[&[u8]]) -> Result<Command, LineRefusal>
     ensures { Gives (λ c. c) result (write_of case (texts words.now)) }
 {

@@ -17,6 +17,7 @@ use std::alloc::Global;
 
 /// The event of a line of a script, by its words.
 #[tactic(auto, unfolding(crate::specs::Events::event_of))]
+#[inline(always)]
 pub fn read_event(alloc: Global, case: HexCase, words: &[&[u8]]) -> Result<Event, LineRefusal>
     ensures { Gives (λ e. e) result (event_of case (texts words.now)) }
 {
@@ -40,7 +41,8 @@ pub fn read_event(alloc: Global, case: HexCase, words: &[&[u8]]) -> Result<Event
 
 /// `take D T`, by the words after the first.
 #[tactic(auto, unfolding(crate::specs::Events::take_of))]
-pub fn read_take(words: &[&[u8]]) -> Result<Event, LineRefusal>
+#[inline(always)]
+fn read_take(words: &[&[u8]]) -> Result<Event, LineRefusal>
     ensures { Gives (λ e. e) result (take_of (texts words.now)) }
 {
     count_test(words, 2)?;
@@ -51,7 +53,8 @@ pub fn read_take(words: &[&[u8]]) -> Result<Event, LineRefusal>
 
 /// `do A COMMAND`, by the words after the first.
 #[tactic(auto, unfolding(crate::specs::Events::do_of))]
-pub fn read_do(alloc: Global, case: HexCase, words: &[&[u8]]) -> Result<Event, LineRefusal>
+#[inline(always)]
+fn read_do(alloc: Global, case: HexCase, words: &[&[u8]]) -> Result<Event, LineRefusal>
     ensures { Gives (λ e. e) result (do_of case (texts words.now)) }
 {
     let (act, command) = read_act_command(alloc, case, words)?;
@@ -60,7 +63,8 @@ pub fn read_do(alloc: Global, case: HexCase, words: &[&[u8]]) -> Result<Event, L
 
 /// `tend A`, by the words after the first.
 #[tactic(auto, unfolding(crate::specs::Events::tend_of))]
-pub fn read_tend(words: &[&[u8]]) -> Result<Event, LineRefusal>
+#[inline(always)]
+fn read_tend(words: &[&[u8]]) -> Result<Event, LineRefusal>
     ensures { Gives (λ e. e) result (tend_of (texts words.now)) }
 {
     count_test(words, 1)?;

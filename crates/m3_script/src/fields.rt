@@ -16,6 +16,7 @@ use m3_text::refusal::{LineRefusal, Why};
 use std::alloc::Global;
 
 /// A token, an offset or a place, 0 to 2^32 - 1.
+#[inline(always)]
 pub fn read_u32(word: &[u8]) -> Result<u32, LineRefusal>
     ensures { Gives (λ n. n) result (number 0 4294967295 word.now) }
 {

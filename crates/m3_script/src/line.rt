@@ -3,11 +3,10 @@
 ghost use Rattle.std.specs.Prelude.{◌≡◌};
 ghost use Rattle.m3_text.specs.Lines.{texts};
 ghost use Rattle.m3_text.specs.Refusable.{Gives};
-ghost use Rattle.m3_script.specs.LineForms.{line_of, opening_of};
+ghost use Rattle.m3_script.specs.LineForms.{begins_event, line_of, opening_of};
 
-use crate::events::{read_do, read_take, read_tend};
+use crate::events::read_event;
 use crate::grants::read_grant_line;
-use crate::orders::read_switch;
 use crate::setups::{read_act_line, read_machine};
 use m3_base::event::Event;
 use m3_base::setup_line::SetupLine;
@@ -25,24 +24,32 @@ pub enum Line {
     Event(Event),
 }
 
-/// The line of these words. The forms that are built have a branch here or in `read_opening`; the words of any other
-/// fit no form.
+/// The line of these words. The forms that are built begin with a word of `begins_event`, or have a branch in
+/// `read_opening`; the words of any other fit no form.
 #[tactic(auto, unfolding(crate::specs::LineForms::line_of))]
-pub fn read_words(alloc: Global, words: &[&[u8]]) -> Result<Line, LineRefusal>
+#[inline(always)]
+pub fn read_form(alloc: Global, words: &[&[u8]]) -> Result<Line, LineRefusal>
     ensures { Gives (λ l. l) result (line_of (texts words.now)) }
 {
-    let (first, rest) = cut_first(words);
-    if first == b"take".as_slice() {
-        Ok(Line::Event(read_take(rest)?))
-    } else if first == b"do".as_slice() {
-        Ok(Line::Event(read_do(alloc, HexCase::Either, rest)?))
-    } else if first == b"tend".as_slice() {
-        Ok(Line::Event(read_tend(rest)?))
-    } else if first == b"switch".as_slice() {
-        Ok(Line::Event(Event::Order(read_switch(rest)?)))
+    let (first, _) = cut_first(words);
+    if begins_event(first) {
+        Ok(Line::Event(read_event(alloc, HexCase::Either, words)?))
     } else {
         read_opening(words)
     }
+}
+
+/// Whether the word begins an event that is built.
+fn begins_event(word: &[u8]) -> bool
+    ensures { result ≡ begins_event word.now }
+{
+    word == b"take".as_slice()
+        || word == b"do".as_slice()
+        || word == b"tend".as_slice()
+        || word == b"close".as_slice()
+        || word == b"revoke".as_slice()
+        || word == b"grant".as_slice()
+        || word == b"switch".as_slice()
 }
 
 #[tactic(auto, unfolding(crate::specs::LineForms::opening_of))]

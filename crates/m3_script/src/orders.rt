@@ -13,6 +13,7 @@ use m3_text::shapes::{count_test, cut_first, word};
 
 /// The order of these words.
 #[tactic(auto, unfolding(crate::specs::Events::order_of))]
+#[inline(always)]
 pub fn read_order(words: &[&[u8]]) -> Result<Order, LineRefusal>
     ensures { Gives (λ o. o) result (order_of (texts words.now)) }
 {
@@ -30,7 +31,8 @@ pub fn read_order(words: &[&[u8]]) -> Result<Order, LineRefusal>
 
 /// `switch T A`, by the words after the first.
 #[tactic(auto, unfolding(crate::specs::Events::switch_of))]
-pub fn read_switch(words: &[&[u8]]) -> Result<Order, LineRefusal>
+#[inline(always)]
+fn read_switch(words: &[&[u8]]) -> Result<Order, LineRefusal>
     ensures { Gives (λ o. o) result (switch_of (texts words.now)) }
 {
     count_test(words, 2)?;

@@ -1,11 +1,11 @@
 //! Bytes as a script.
 
 ghost use Rattle.std.specs.Prelude.{◌≡◌, ◌≤◌, length, IfOk};
-ghost use Rattle.m3_script.specs.Rules.{AllNamed};
+ghost use Rattle.m3_script.specs.Rules.{AllInRanges, AllNamed};
 ghost use Rattle.m3_script.specs.ScriptText.{script_of, script_at_end};
 ghost use Rattle.m3_script.specs.ParserView.{Parses, refusal, state};
 
-use crate::reading::{Frame, Progress, take_line};
+use crate::reading::{ParseOptions, ParserState, read_line};
 use crate::script::{Mode, Script, ScriptRefusal};
 use m3_text::lines::cut_line;
 use m3_text::refusal::{LineRefusal, Why};
@@ -16,22 +16,23 @@ pub fn parse(alloc: Global, bytes: &[u8], mode: Mode, boxes: u32) -> Result<Scri
     requires limit { length bytes.now ≤ 67108864 }
     ensures exact { Parses result (script_of mode boxes bytes.now) }
     ensures named { IfOk result (λ s. AllNamed s.setup s.events.items) }
+    ensures ranges { IfOk result (λ s. AllInRanges s.events.items) }
 {
-    let frame = Frame { mode, boxes };
-    let mut progress = Progress::Nothing;
+    let options = ParseOptions { mode, boxes };
+    let mut parser = ParserState::Empty;
     let mut words = Vec::new(alloc);
     let mut rest = bytes;
     let mut line: u32 = 1;
     while !rest.is_empty() {
         let (text, after) = cut_line(rest);
-        match take_line(alloc, frame, &mut progress, text, &mut words) {
+        match read_line(alloc, options, &mut parser, text, &mut words) {
             Ok(()) => {}
             Err(error) => return Err(refusal(line, error)),
         }
         rest = after;
         line += 1;
     }
-    finish(progress, line)
+    script_at_end(parser, line)
 }
 
 fn refusal(line: u32, error: LineRefusal) -> ScriptRefusal
@@ -43,11 +44,11 @@ fn refusal(line: u32, error: LineRefusal) -> ScriptRefusal
     }
 }
 
-fn finish(progress: Progress, line: u32) -> Result<Script, ScriptRefusal>
-    ensures { Parses result (script_at_end line (state progress)) }
+fn script_at_end(parser: ParserState, line: u32) -> Result<Script, ScriptRefusal>
+    ensures { Parses result (script_at_end line (state parser)) }
 {
-    match progress {
-        Progress::Running(setup, events) => Ok(Script { setup, events }),
+    match parser {
+        ParserState::Running(setup, events) => Ok(Script { setup, events }),
         _ => Err(ScriptRefusal::Bad {
             line,
             why: Why::Place,

@@ -6,8 +6,8 @@ ghost use Rattle.m3_text.specs.Refusable.{Gives};
 ghost use Rattle.m3_script.specs.ScriptText.{state_with_machine, state_with_line, Running, events_with, after_first_line, after_setup_line, after_event_line, after_words, words_of_line, after_line, is_skipped};
 ghost use Rattle.m3_script.specs.ParserView.{state, IsBefore, Leads};
 
-use crate::line::{Line, read_words};
-use crate::rules::{is_allowed, lacks_logic, misses};
+use crate::line::{Line, read_form};
+use crate::rules::{is_allowed, lacks_logic, names_undeclared};
 use crate::script::Mode;
 use m3_base::event::Event;
 use m3_base::setup::{Setup, SetupRefusal};
@@ -19,9 +19,9 @@ use std::mem;
 
 /// What the lines so far say.
 #[derive(Debug, Drop)]
-pub enum Progress {
+pub enum ParserState {
     /// The first line is still to come.
-    Nothing,
+    Empty,
     InSetup(Setup),
     /// `begin` came, and these events since.
     Running(Setup, Vec<Event>),
@@ -29,7 +29,7 @@ pub enum Progress {
 
 /// What a script is read for, and how many logics are handed in.
 #[derive(Clone, Copy, Debug, Drop)]
-pub struct Frame {
+pub struct ParseOptions {
     pub mode: Mode,
     pub boxes: u32,
 }
@@ -37,16 +37,18 @@ pub struct Frame {
 // The most words that a form has.
 const MOST_WORDS: usize = 13;
 
-/// Takes in one line more. A line that is refused ends the reading, so that nothing is said of `progress` then.
+/// Takes in one line more. A line that is refused ends the reading, so that nothing is said of `parser` then.
 #[tactic(auto, using(crate::proofs::WordLimit::skipped_by_few, crate::proofs::WordLimit::taken_by_few), unfolding(crate::specs::ScriptText::after_line))]
-pub fn take_line<'a>(
+#[inline(always)]
+pub fn read_line<'a>(
     alloc: Global,
-    frame: Frame,
-    progress: &mut Progress,
+    options: ParseOptions,
+    parser: &mut ParserState,
     line: &'a [u8],
     words: &mut Vec<&'a [u8]>,
 ) -> Result<(), LineRefusal>
-    ensures { Leads result (state progress.new) (after_line frame.mode frame.boxes (state progress.old) line.now) }
+    ensures { Leads result (state parser.new)
+        (after_line options.mode options.boxes (state parser.old) line.now) }
 {
     if !is_plain(line) {
         return Err(LineRefusal::Bad(Why::Form));
@@ -55,9 +57,10 @@ pub fn take_line<'a>(
     if is_skipped(words) {
         return Ok(());
     }
-    take_words(alloc, frame, progress, words)
+    read_words(alloc, options, parser, words)
 }
 
+#[inline(always)]
 fn is_skipped(words: &[&[u8]]) -> bool
     ensures { result ≡ is_skipped (texts words.now) }
 {
@@ -69,94 +72,108 @@ fn is_skipped(words: &[&[u8]]) -> bool
 }
 
 #[tactic(auto, unfolding(crate::specs::ScriptText::words_of_line))]
-fn take_words(
+#[inline(always)]
+fn read_words(
     alloc: Global,
-    frame: Frame,
-    progress: &mut Progress,
+    options: ParseOptions,
+    parser: &mut ParserState,
     words: &[&[u8]],
 ) -> Result<(), LineRefusal>
-    ensures { Leads result (state progress.new) (words_of_line frame.mode frame.boxes (state progress.old) (texts words.now)) }
+    ensures { Leads result (state parser.new)
+        (words_of_line options.mode options.boxes (state parser.old) (texts words.now)) }
 {
     if MOST_WORDS < words.len() {
         return Err(LineRefusal::Bad(Why::Form));
     }
-    let line = read_words(alloc, words)?;
-    take(alloc, frame, progress, line)
+    let line = read_form(alloc, words)?;
+    apply(alloc, options, parser, line)
 }
 
 #[tactic(auto, unfolding(crate::specs::ScriptText::after_words))]
-fn take(alloc: Global, frame: Frame, progress: &mut Progress, line: Line) -> Result<(), LineRefusal>
-    ensures { Leads result (state progress.new) (after_words frame.mode frame.boxes (state progress.old) line) }
+#[inline(always)]
+fn apply(
+    alloc: Global,
+    options: ParseOptions,
+    parser: &mut ParserState,
+    line: Line,
+) -> Result<(), LineRefusal>
+    ensures { Leads result (state parser.new)
+        (after_words options.mode options.boxes (state parser.old) line) }
 {
-    match progress {
-        Progress::Running(setup, events) => take_after(frame.mode, setup, events, line),
-        _ => take_before(alloc, frame, progress, line),
+    match parser {
+        ParserState::Running(setup, events) => apply_event_line(options.mode, setup, events, line),
+        _ => apply_before_begin(alloc, options, parser, line),
     }
 }
 
 /// A line up to `begin`.
 #[tactic(auto, unfolding(crate::specs::ScriptText::after_words))]
-fn take_before(
+fn apply_before_begin(
     alloc: Global,
-    frame: Frame,
-    progress: &mut Progress,
+    options: ParseOptions,
+    parser: &mut ParserState,
     line: Line,
 ) -> Result<(), LineRefusal>
-    requires { IsBefore (state progress.old) }
-    ensures { Leads result (state progress.new) (after_words frame.mode frame.boxes (state progress.old) line) }
+    requires { IsBefore (state parser.old) }
+    ensures { Leads result (state parser.new)
+        (after_words options.mode options.boxes (state parser.old) line) }
 {
-    match mem::replace(progress, Progress::Nothing) {
-        Progress::Nothing => {
-            *progress = take_first(alloc, line)?;
+    match mem::replace(parser, ParserState::Empty) {
+        ParserState::Empty => {
+            *parser = apply_first(alloc, line)?;
             Ok(())
         }
-        Progress::InSetup(setup) => {
-            *progress = take_in_setup(alloc, frame.boxes, setup, line)?;
+        ParserState::InSetup(setup) => {
+            *parser = apply_setup_line(alloc, options.boxes, setup, line)?;
             Ok(())
         }
-        Progress::Running(..) => unreachable!(),
+        ParserState::Running(..) => unreachable!(),
     }
 }
 
-fn take_first(alloc: Global, line: Line) -> Result<Progress, LineRefusal>
+fn apply_first(alloc: Global, line: Line) -> Result<ParserState, LineRefusal>
     ensures { Gives state result (after_first_line line) }
 {
     match line {
-        Line::Machine { tiles, memory } => Ok(Progress::InSetup(start(alloc, tiles, memory)?)),
+        Line::Machine { tiles, memory } => Ok(ParserState::InSetup(new_setup(
+            alloc, tiles, memory,
+        )?)),
         _ => Err(LineRefusal::Bad(Why::Place)),
     }
 }
 
-fn take_in_setup(
+fn apply_setup_line(
     alloc: Global,
     boxes: u32,
     setup: Setup,
     line: Line,
-) -> Result<Progress, LineRefusal>
+) -> Result<ParserState, LineRefusal>
     ensures { Gives state result (after_setup_line boxes setup line) }
 {
     match line {
-        Line::Setup(line) => Ok(Progress::InSetup(add(boxes, setup, line)?)),
-        Line::Begin => Ok(Progress::Running(setup, Vec::new(alloc))),
+        Line::Setup(line) => Ok(ParserState::InSetup(add_setup_line(boxes, setup, line)?)),
+        Line::Begin => Ok(ParserState::Running(setup, Vec::new(alloc))),
         _ => Err(LineRefusal::Bad(Why::Place)),
     }
 }
 
-fn take_after(
+#[inline(always)]
+fn apply_event_line(
     mode: Mode,
     setup: &Setup,
     events: &mut Vec<Event>,
     line: Line,
 ) -> Result<(), LineRefusal>
-    ensures { Leads result (Running setup.now events.new.items) (after_event_line mode setup.now events.old.items line) }
+    ensures { Leads result (Running setup.now events.new.items)
+        (after_event_line mode setup.now events.old.items line) }
 {
     match line {
-        Line::Event(event) => happen(mode, setup, events, event),
+        Line::Event(event) => append_event(mode, setup, events, event),
         _ => Err(LineRefusal::Bad(Why::Place)),
     }
 }
 
-fn start(alloc: Global, tiles: u8, memory: u32) -> Result<Setup, LineRefusal>
+fn new_setup(alloc: Global, tiles: u8, memory: u32) -> Result<Setup, LineRefusal>
     ensures { Gives (λ s. s) result (state_with_machine tiles memory) }
 {
     match Setup::new(alloc, tiles, memory) {
@@ -166,7 +183,7 @@ fn start(alloc: Global, tiles: u8, memory: u32) -> Result<Setup, LineRefusal>
     }
 }
 
-fn add(boxes: u32, setup: Setup, line: SetupLine) -> Result<Setup, LineRefusal>
+fn add_setup_line(boxes: u32, setup: Setup, line: SetupLine) -> Result<Setup, LineRefusal>
     ensures { Gives (λ s. s) result (state_with_line boxes setup line) }
 {
     if lacks_logic(boxes, &line) {
@@ -180,7 +197,8 @@ fn add(boxes: u32, setup: Setup, line: SetupLine) -> Result<Setup, LineRefusal>
     }
 }
 
-fn happen(
+#[inline(always)]
+fn append_event(
     mode: Mode,
     setup: &Setup,
     events: &mut Vec<Event>,
@@ -191,7 +209,7 @@ fn happen(
     if !is_allowed(mode, events.as_slice(), &event) {
         return Err(LineRefusal::Bad(Why::Place));
     }
-    if misses(setup, &event) {
+    if names_undeclared(setup, &event) {
         return Err(LineRefusal::Bad(Why::Rule));
     }
     events.push(event)?;

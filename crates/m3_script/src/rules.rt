@@ -24,6 +24,7 @@ pub fn lacks_logic(boxes: u32, line: &SetupLine) -> bool
 }
 
 /// Whether an event may follow these in a script that is read for this: any in a run, and else an order, up to 4,096.
+#[inline(always)]
 pub fn is_allowed(mode: Mode, events: &[Event], event: &Event) -> bool
     ensures { result ≡ is_allowed mode events.now event.now }
 {
@@ -36,12 +37,14 @@ pub fn is_allowed(mode: Mode, events: &[Event], event: &Event) -> bool
     }
 }
 
+#[inline(always)]
 fn is_absent(setup: &Setup, act: ActId) -> bool
     ensures { result ≡ is_absent act setup.now }
 {
     setup.home(act).is_none()
 }
 
+#[inline(always)]
 fn has_program(setup: &Setup, act: ActId) -> bool
     ensures { result ≡ has_program act setup.now }
 {
@@ -51,13 +54,14 @@ fn has_program(setup: &Setup, act: ActId) -> bool
     }
 }
 
+#[inline(always)]
 fn has_tile(setup: &Setup, tile: TileId) -> bool
     ensures { result ≡ nat_lt tile setup.now.tiles }
 {
     tile.number() < setup.tiles()
 }
 
-fn order_misses(setup: &Setup, order: &Order) -> bool
+fn order_names_undeclared(setup: &Setup, order: &Order) -> bool
     ensures { result ≡ order_names_undeclared order.now setup.now }
 {
     match order {
@@ -67,7 +71,7 @@ fn order_misses(setup: &Setup, order: &Order) -> bool
     }
 }
 
-fn file_misses(setup: &Setup, line: &FileLine) -> bool
+fn file_names_undeclared(setup: &Setup, line: &FileLine) -> bool
     ensures { result ≡ file_names_undeclared line.now setup.now }
 {
     match line {
@@ -78,7 +82,8 @@ fn file_misses(setup: &Setup, line: &FileLine) -> bool
 
 /// Whether the setup has no such tile or activity as the event names, or the activity has a program at a do, or none
 /// at a turn.
-pub fn misses(setup: &Setup, event: &Event) -> bool
+#[inline(always)]
+pub fn names_undeclared(setup: &Setup, event: &Event) -> bool
     ensures { result ≡ names_undeclared event.now setup.now }
 {
     match event {
@@ -87,7 +92,7 @@ pub fn misses(setup: &Setup, event: &Event) -> bool
         Event::Take { to, from } => !(has_tile(setup, *to) && has_tile(setup, *from)),
         Event::Tend(act) => is_absent(setup, *act),
         Event::Close => false,
-        Event::Order(order) => order_misses(setup, order),
-        Event::File(line) => file_misses(setup, line),
+        Event::Order(order) => order_names_undeclared(setup, order),
+        Event::File(line) => file_names_undeclared(setup, line),
     }
 }

@@ -141,6 +141,7 @@ fn await_item_test(words: &[&[u8]]) -> Result<(), LineRefusal>
 
 /// `A COMMAND`: an activity and its command.
 #[tactic(auto, using(m3_text::proofs::JoinedCauses::gives_both), unfolding(crate::specs::Setups::act_command_of))]
+#[inline(always)]
 pub fn read_act_command(
     alloc: Global,
     case: HexCase,

@@ -2,7 +2,7 @@ use Rattle.std.proofs.Common.{◌∷◌, [], refl, rules, sym, inl, inr, ◌∙�
 use Rattle.m3_base.specs.Io.Streams.{GivesMore, Rose}
 use Rattle.m3_cmd.specs.OutputContract.{IsAnswer, IsInputAnswer, IsOutput}
 use Rattle.m3_cmd.specs.Statuses.{IsOneOf, read_fault_line, too_long_line, usage_line}
-use Rattle.m3_cmd.proofs.Outputs.{all_more, faulty_complete, finish_some, gives_none, input_answer, input_complete, long_complete, most_more, no_form, none_left, some_more}
+use Rattle.m3_cmd.proofs.Outputs.{all_more, faulty_complete, output_some, gives_none, input_answer, input_complete, long_complete, most_more, no_form, none_left, some_more}
 use Rattle.m3_base.proofs.StreamLoops.{none_appended as appends_none}
 use Rattle.m3_cmd.proofs.run.run_words.Goals as goal
 
@@ -10,7 +10,7 @@ use Rattle.m3_cmd.proofs.run.run_words.Goals as goal
 
 pub returns-in-None-clause-prefix : goal.returns-in-None-clause-prefix
 returns-in-None-clause-prefix g c = λ four.
-    finish_some (IsOutput c.args.words.now _ _ _) 1 usage_line _ _ (inl (sym c.read_form.ensures ∙ c.in-None.is, refl, refl)) (c.finish.ensures.fault (λ e. cc) four).1
+    output_some (IsOutput c.args.words.now _ _ _) 1 usage_line _ _ (inl (sym c.read_form.ensures ∙ c.in-None.is, refl, refl)) (c.write_output.ensures.fault (λ e. cc) four).1
 
 pub returns-in-None-clause-within : goal.returns-in-None-clause-within
 returns-in-None-clause-within g c = λ not_four not_eight. gives_none (g.S.Source.left c.args.source.now) 1048576
@@ -22,23 +22,23 @@ returns-in-None-clause-complete g c = λ form asks. no_form c.args.words.now for
 
 pub returns-in-Err-ReadFault-clause-prefix : goal.returns-in-Err-ReadFault-clause-prefix
 returns-in-Err-ReadFault-clause-prefix g c = λ four.
-    finish_some (IsOutput c.args.words.now (Rose (g.S.Source.faults c.args.source.now) (g.S.Source.faults c.read_all.new.source)) _ _) 3 read_fault_line _ _
+    output_some (IsOutput c.args.words.now (Rose (g.S.Source.faults c.args.source.now) (g.S.Source.faults c.read_all.new.source)) _ _) 3 read_fault_line _ _
     (inr (inl (c.in-Some.form, sym c.read_form.ensures ∙ c.in-Some.is, (let rose : Rose (g.S.Source.faults c.args.source.now) (g.S.Source.faults c.read_all.new.source) = search rules in rose), refl, refl)))
-    (c.finish-in-Err-ReadFault.ensures.fault (λ e. cc) four).1
+    (c.write_output-in-Err-ReadFault.ensures.fault (λ e. cc) four).1
 
 pub returns-in-Err-ReadFault-clause-complete : goal.returns-in-Err-ReadFault-clause-complete
 returns-in-Err-ReadFault-clause-complete g c = λ form asks.
-    faulty_complete form (g.S.Source.left c.args.source.now) c.finish-in-Err-ReadFault.result (let fault : IsOneOf (3 ∷ 4 ∷ 5 ∷ []) c.finish-in-Err-ReadFault.result = search rules in fault)
+    faulty_complete form (g.S.Source.left c.args.source.now) c.write_output-in-Err-ReadFault.result (let fault : IsOneOf (3 ∷ 4 ∷ 5 ∷ []) c.write_output-in-Err-ReadFault.result = search rules in fault)
 
 pub returns-in-Err-TooLong-clause-prefix : goal.returns-in-Err-TooLong-clause-prefix
 returns-in-Err-TooLong-clause-prefix g c = λ four.
-    finish_some (IsOutput c.args.words.now _ (g.S.Source.left c.args.source.now) (g.S.Source.left c.read_all.new.source)) 8 too_long_line _ _
+    output_some (IsOutput c.args.words.now _ (g.S.Source.left c.args.source.now) (g.S.Source.left c.read_all.new.source)) 8 too_long_line _ _
     (inr (inr (inl (c.in-Some.form, sym c.read_form.ensures ∙ c.in-Some.is, (let long : GivesMore (g.S.Source.left c.args.source.now) (g.S.Source.left c.read_all.new.source) 1048576 = search rules in long), refl, refl))))
-    (c.finish-in-Err-TooLong.ensures.fault (λ e. cc) four).1
+    (c.write_output-in-Err-TooLong.ensures.fault (λ e. cc) four).1
 
 pub returns-in-Err-TooLong-clause-complete : goal.returns-in-Err-TooLong-clause-complete
 returns-in-Err-TooLong-clause-complete g c = λ form asks.
-    long_complete form (g.S.Source.left c.args.source.now) (g.S.Source.left c.read_all.new.source) c.finish-in-Err-TooLong.result (let long : GivesMore (g.S.Source.left c.args.source.now) (g.S.Source.left c.read_all.new.source) 1048576 = search rules in long)
+    long_complete form (g.S.Source.left c.args.source.now) (g.S.Source.left c.read_all.new.source) c.write_output-in-Err-TooLong.result (let long : GivesMore (g.S.Source.left c.args.source.now) (g.S.Source.left c.read_all.new.source) 1048576 = search rules in long)
 
 pub returns-in-Err-NoMemory-clause-memory : goal.returns-in-Err-NoMemory-clause-memory
 returns-in-Err-NoMemory-clause-memory g c = λ five. inl (appends_none (g.K.Sink.written c.args.sink.now))

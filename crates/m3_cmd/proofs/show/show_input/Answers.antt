@@ -1,6 +1,6 @@
 use Rattle.std.proofs.Common.{refl, sym, subst, inl}
 use Rattle.m3_cmd.specs.ShowContract.{IsRefusalLine, IsShowAnswer, IsShown}
-use Rattle.m3_cmd.proofs.Outputs.{all_more, some_more, most_more, finish_some}
+use Rattle.m3_cmd.proofs.Outputs.{all_more, some_more, most_more, output_some}
 use Rattle.m3_cmd.proofs.PacketsShown.{answers}
 use Rattle.m3_cmd.proofs.show.show_input.Goals as goal
 
@@ -21,6 +21,6 @@ returns-in-Err-clause-memory g c = λ five.
 
 pub returns-in-Ok-clause-prefix : goal.returns-in-Ok-clause-prefix
 returns-in-Ok-clause-prefix g c = λ four.
-    finish_some (IsShowAnswer c.args.bytes.now) 0 c.as_bytes.result.now _ _
+    output_some (IsShowAnswer c.args.bytes.now) 0 c.as_bytes.result.now _ _
     (inl (refl, subst (IsShown c.args.bytes.now) (sym c.as_bytes.ensures.value) c.in-Ok.ensures.shown))
-    (c.finish.ensures.fault (λ e. cc) four).1
+    (c.write_output.ensures.fault (λ e. cc) four).1

@@ -2,24 +2,29 @@ use Rattle.std.proofs.Common.{arith}
 use Rattle.m3_script.specs.ScriptText.{script_of}
 use Rattle.m3_script.specs.ParserView.{Parses, state}
 use Rattle.m3_script.proofs.LineLoop.{goes_on, is_refused, at_end}
-use Rattle.m3_script.proofs.NamedEvents.{named_of}
+use Rattle.m3_script.proofs.NamedEvents.{named_of, ranges_of}
 use Rattle.m3_script.proofs.parsing.parse.Goals as goal
 
 pub returns-in-Err : goal.returns-in-Err
 returns-in-Err c = record {
-  exact = rw c.refusal.ensures (is_refused c.args.mode c.args.boxes c.loop-rest.rest.now c.cut_line.result.0.now c.cut_line.result.1.now (state c.loop-rest.progress) c.loop-rest.line c.in-Err.error
+  exact = rw c.refusal.ensures (is_refused c.args.mode c.args.boxes c.loop-rest.rest.now c.cut_line.result.0.now c.cut_line.result.1.now (state c.loop-rest.parser) c.loop-rest.line c.in-Err.error
       (script_of c.args.mode c.args.boxes c.args.bytes.now) c.cut_line.ensures.line c.in-Err.ensures c.loop-rest.invariant.reads);
   named = tt;
+  ranges = tt;
 }
 
 pub loop-rest-preserved : goal.loop-rest-preserved
 loop-rest-preserved c = record {
-  reads = goes_on c.args.mode c.args.boxes c.loop-rest.rest.now c.cut_line.result.0.now c.cut_line.result.1.now (state c.loop-rest.progress) (state c.take_line.new.progress) c.loop-rest.line
+  reads = goes_on c.args.mode c.args.boxes c.loop-rest.rest.now c.cut_line.result.0.now c.cut_line.result.1.now (state c.loop-rest.parser) (state c.read_line.new.parser) c.loop-rest.line
       (script_of c.args.mode c.args.boxes c.args.bytes.now) c.cut_line.ensures.line c.in-Ok.ensures c.loop-rest.invariant.reads;
   room = omega (arith, c.cut_line.ensures.shorter);
 }
 
 pub returns : goal.returns
 returns c =
-    let exact : Parses c.finish.result (script_of c.args.mode c.args.boxes c.args.bytes.now) = rw (at_end c.args.mode c.args.boxes c.loop-rest.rest.now (state c.loop-rest.progress) c.loop-rest.line (script_of c.args.mode c.args.boxes c.args.bytes.now) c.loop-rest-test.ensures c.loop-rest.invariant.reads) c.finish.ensures in
-    record { exact = exact; named = named_of c.args.mode c.args.boxes c.args.bytes.now c.finish.result exact }
+    let exact : Parses c.script_at_end.result (script_of c.args.mode c.args.boxes c.args.bytes.now) = rw (at_end c.args.mode c.args.boxes c.loop-rest.rest.now (state c.loop-rest.parser) c.loop-rest.line (script_of c.args.mode c.args.boxes c.args.bytes.now) c.loop-rest-test.ensures c.loop-rest.invariant.reads) c.script_at_end.ensures in
+    record {
+      exact = exact;
+      named = named_of c.args.mode c.args.boxes c.args.bytes.now c.script_at_end.result exact;
+      ranges = ranges_of c.args.mode c.args.boxes c.args.bytes.now c.script_at_end.result exact;
+    }

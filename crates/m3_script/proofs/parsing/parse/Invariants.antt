@@ -6,7 +6,7 @@ use Rattle.m3_script.proofs.parsing.parse.Given as goal
 
 abbrev pub invariant-loop-rest : goal.invariant-loop-rest
 invariant-loop-rest l = record {
-  reads : after_lines l.frame.mode l.frame.boxes (lines l.rest) (state l.progress) l.line ≡ script_of l.fn.mode l.fn.boxes l.bytes;
+  reads : after_lines l.options.mode l.options.boxes (lines l.rest) (state l.parser) l.line ≡ script_of l.fn.mode l.fn.boxes l.bytes;
   room : l.line + length l.rest ≤ length l.bytes + 1;
 }
 
