@@ -8,6 +8,8 @@ mod memory;
 #[cfg(test)]
 mod replies;
 #[cfg(test)]
+mod revoking;
+#[cfg(test)]
 mod runs;
 #[cfg(test)]
 mod sends;

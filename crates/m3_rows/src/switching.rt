@@ -116,6 +116,7 @@ fn idle_events_and_refused_switches(rt: HostRuntime) -> Result<(), AllocError> {
         (b"take 2 3".as_slice(), b"idle empty-link".as_slice()),
         (b"tend 0".as_slice(), b"idle not-resting".as_slice()),
         (b"tend 2".as_slice(), b"idle empty-hold".as_slice()),
+        (b"close".as_slice(), b"idle nothing-to-close".as_slice()),
         (b"switch 3 0".as_slice(), b"refused not-home".as_slice()),
         (b"switch 3 1".as_slice(), b"refused already".as_slice()),
         (b"switch 3 2".as_slice(), b"save 1".as_slice()),

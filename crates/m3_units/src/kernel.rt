@@ -1,20 +1,20 @@
 //! What no clause says: that the kernel answers where memory suffices.
 
-ghost use Rattle.std.specs.Prelude.{◌≡◌, []};
-
 use m3_base::ids::{ActId, EpId, FlightId, GrantId, TileId};
 use m3_base::message::{Header, Message};
-use m3_base::packet::{Fresh, Packet};
+use m3_base::order::{GrantLine, Order};
+use m3_base::packet::Packet;
 use m3_base::payload::Payload;
 use m3_base::setup::{Setup, SetupRefusal};
 use m3_base::setup_line::SetupLine;
 use m3_core::context::Context;
 use m3_core::parcel::{Emit, Parcel};
-use m3_kernel::done::Done;
+use m3_kernel::done::{Done, done_by_order};
 use m3_kernel::kernel::Kernel;
+use m3_machine::opening::contexts;
 use std::alloc::{AllocError, Global};
 
-/// Activities 0 and 1 have their home on tile 2.
+/// Activities 0 and 1 have their home on tile 2, and 1 has a mailbox of two slots at endpoint 0.
 fn setup(alloc: Global) -> Result<Setup, SetupRefusal> {
     let tile = TileId::new(2);
     let mut setup = Setup::new(alloc, 4, 4096)?;
@@ -26,24 +26,13 @@ fn setup(alloc: Global) -> Result<Setup, SetupRefusal> {
         act: ActId::new(1),
         tile,
     })?;
+    setup.add(SetupLine::Grant(GrantLine::Recv {
+        act: ActId::new(1),
+        ep: EpId::new(0),
+        slots: 2,
+        size: 16,
+    }))?;
     Ok(setup)
-}
-
-/// Activity 0 is there, and 1 rests, with a mailbox of two slots at endpoint 0.
-fn seats(alloc: Global, kernel: &mut Kernel) -> Result<(), AllocError>
-    requires { kernel.old.kernel.seats ≡ [] }
-{
-    let mut resting = Context::new(alloc, ActId::new(1))?;
-    resting.install(
-        EpId::new(0),
-        Fresh::Receive {
-            grant: GrantId::new(1),
-            slots: 2,
-            size: 16,
-        },
-    );
-    kernel.seat(alloc, ActId::new(0), None)?;
-    kernel.seat(alloc, ActId::new(1), Some(resting))
 }
 
 /// An empty message of activity 0 to the mailbox of activity 1.
@@ -103,9 +92,18 @@ fn take(kernel: &mut Kernel, parcel: Parcel) -> Result<Done, AllocError> {
     }
 }
 
+/// A switch, while the kernel has few packets of its own.
+fn switch(kernel: &mut Kernel, tile: TileId, act: ActId) -> Result<Done, AllocError> {
+    if kernel.next_number() < 1000 {
+        done_by_order(kernel.order(Order::Switch { tile, act }))
+    } else {
+        Err(AllocError)
+    }
+}
+
 fn run(alloc: Global, kernel: &mut Kernel, step: Step) -> Result<Done, AllocError> {
     match step {
-        Step::Switch(tile, act) => Ok(kernel.switch(tile, act)),
+        Step::Switch(tile, act) => switch(kernel, tile, act),
         Step::Message => take(kernel, message(alloc)),
         Step::Close => take(kernel, close()),
         Step::Saved => {
@@ -152,8 +150,8 @@ fn text(alloc: Global, done: &Done) -> Result<String, AllocError> {
 fn a_switch_waits_for_what_is_held(rt: HostRuntime) {
     let alloc = rt.alloc();
     let setup = setup(alloc).expect(&rt, "the lines are fine");
-    let mut kernel = Kernel::new(alloc, &setup).expect(&rt, "memory");
-    seats(alloc, &mut kernel).expect(&rt, "memory");
+    let mut table = contexts(alloc, &setup).expect(&rt, "memory");
+    let mut kernel = Kernel::new(alloc, &setup, &mut table).expect(&rt, "memory");
     let zero = ActId::new(0);
     let one = ActId::new(1);
     let home = TileId::new(2);

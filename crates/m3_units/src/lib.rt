@@ -18,6 +18,8 @@ mod journal_lines;
 #[cfg(test)]
 mod kernel;
 #[cfg(test)]
+mod kernel_orders;
+#[cfg(test)]
 mod link;
 #[cfg(test)]
 mod memory;

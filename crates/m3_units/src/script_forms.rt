@@ -196,11 +196,55 @@ fn switches_and_tends_are_read_and_refused(rt: HostRuntime) -> Result<(), AllocE
         ("tend 0 0", Some(Why::Form)),
         ("Tend 0", Some(Why::Form)),
         ("act 2 tile 2", Some(Why::Place)),
-        ("close", Some(Why::Form)),
         ("turn 0", Some(Why::Form)),
-        ("revoke 1", Some(Why::Form)),
-        ("grant recv 0 0 slots 1 size 1", Some(Why::Form)),
         ("file create a", Some(Why::Form)),
+    ] {
+        let text = joined(rt.alloc(), SHARED, line.as_bytes(), b"\n")?;
+        expect(&rt, rt.alloc(), text.as_slice(), 6, cause);
+    }
+    Ok(())
+}
+
+#[test]
+fn grants_revokes_and_closes_are_read_and_refused(rt: HostRuntime) -> Result<(), AllocError> {
+    for (line, cause) in [
+        ("grant recv 0 15 slots 32 size 512", None),
+        (
+            "grant send 63 0 of 4096 label 18446744073709551615 credits 32",
+            None,
+        ),
+        ("grant range 0 0 at 4294967295 len 4294967295 perm w", None),
+        ("grant part 0 0 of 1 at 0 len 1 perm rw", None),
+        ("grant", Some(Why::Form)),
+        ("grant switch 2 0", Some(Why::Form)),
+        ("grant act 1 tile 2", Some(Why::Form)),
+        ("grant grant recv 0 0 slots 1 size 1", Some(Why::Form)),
+        ("grant recv 0 0 slots 1", Some(Why::Form)),
+        ("grant range 99 0 at 0 len 0 perm wr", Some(Why::Form)),
+        ("grant recv 0 16 slots 1 size 1", Some(Why::Number)),
+        ("grant recv 0 0 slots 33 size 1", Some(Why::Number)),
+        ("grant recv 0 0 slots 1 size 513", Some(Why::Number)),
+        ("grant recv 64 0 slots 1 size 1", Some(Why::Number)),
+        ("grant send 0 0 of 0 label 0 credits 1", Some(Why::Number)),
+        (
+            "grant send 0 0 of 4097 label 0 credits 1",
+            Some(Why::Number),
+        ),
+        ("grant send 0 0 of 1 label 0 credits 33", Some(Why::Number)),
+        ("grant range 0 0 at 0 len 0 perm r", Some(Why::Number)),
+        (
+            "grant part 0 0 of 1 at 4294967296 len 1 perm r",
+            Some(Why::Number),
+        ),
+        ("grant recv 2 0 slots 1 size 1", Some(Why::Rule)),
+        ("revoke 1", None),
+        ("revoke 4096", None),
+        ("revoke 0", Some(Why::Number)),
+        ("revoke 4097", Some(Why::Number)),
+        ("revoke", Some(Why::Form)),
+        ("revoke 1 2", Some(Why::Form)),
+        ("close", None),
+        ("close 1", Some(Why::Form)),
     ] {
         let text = joined(rt.alloc(), SHARED, line.as_bytes(), b"\n")?;
         expect(&rt, rt.alloc(), text.as_slice(), 6, cause);
@@ -217,6 +261,9 @@ fn the_driver_leaves_orders_to_the_script(rt: HostRuntime) -> Result<(), AllocEr
         ("tend 2", Some(Why::Place)),
         ("take 2 2", Some(Why::Place)),
         ("do 0 fetch 0", Some(Why::Place)),
+        ("grant recv 0 0 slots 1 size 1", None),
+        ("revoke 1", None),
+        ("close", Some(Why::Place)),
     ] {
         let text = joined(rt.alloc(), SHARED, line.as_bytes(), b"")?;
         expect_in(&rt, rt.alloc(), Mode::Auto, text.as_slice(), 6, cause);
