@@ -32,7 +32,20 @@ def packet(n):
     return b"\x07" + at + struct.pack("<I", grant), f"close k.{number} to {other} ep {ep} grant {grant}"
 
 
-def make(size):
+def small(n):
+    """The n-th packet of 7 bytes: that a command was sent."""
+    act, number = n % 64, n + 1
+    return b"\x05" + struct.pack("<BIB", act, number, 0), f"answer {act}.{number} sent"
+
+
+def large(n):
+    """The n-th packet of 4,096 bytes that were read."""
+    act, number = n % 64, n + 1
+    payload = bytes((n + i) % 256 for i in range(4096))
+    return b"\x05" + struct.pack("<BIBH", act, number, 3, len(payload)) + payload, f"answer {act}.{number} bytes {payload.hex()}"
+
+
+def make(size, packet=packet):
     """At most this many bytes of packets, their lines, and how many they are."""
     data, lines = bytearray(), []
     while True:
@@ -41,3 +54,11 @@ def make(size):
             return bytes(data), "\n".join([*lines, ""]).encode(), len(lines)
         data += spelled
         lines.append(line)
+
+
+def make_small(size):
+    return make(size, small)
+
+
+def make_large(size):
+    return make(size, large)

@@ -1,32 +1,49 @@
 #!/usr/bin/env python3
-"""Times the built program on inputs of half a MiB and of a whole MiB, the longest input that there is.
+"""Measures the built program on inputs of two sizes, the second twice the first.
 
     python3 bench/run.py [PROGRAM]
 
 PROGRAM is crates/m3x/out/m3x where it is left out (.ci/run builds it). Each input is run or shown once and its whole
 output compared with the journal or the lines that its maker works out for itself, and then five times against the
 clock, with the output thrown away. Printed are the best times, what they come to in bytes and in events or packets a
-second, and their ratio: the second input is twice as long, so a ratio near 2 is linear time.
+second, the most memory that the process held, its page faults, and the instructions that valgrind's callgrind counts
+in it, whole and for each event or packet; where valgrind isn't installed the instructions are left out. The ratios of
+times and of instructions are the second input's to the first's: near 2 is linear. Times depend on what else runs on
+the machine, and instructions don't.
 """
+import ctypes
 import os
+import re
+import shutil
 import subprocess
 import sys
+import tempfile
 import time
 
 import answers
+import large
+import memory
 import messages
+import orders
 import packets
 import switches
 
 TOP = os.path.dirname(os.path.dirname(os.path.abspath(__file__)))
 KIB = 1024
 RUNS = 5
-# the word, what the input is made of, and its maker
+PR_SET_CHILD_SUBREAPER = 36
+# the word, what the input is made of, its maker, and the larger of its two sizes
 MAKERS = (
-    ("run", "messages", messages.make),
-    ("run", "answers", answers.make),
-    ("run", "switches", switches.make),
-    ("show", "packets", packets.make),
+    ("run", "messages", messages.make, 1024 * KIB),
+    ("run", "answers", answers.make, 1024 * KIB),
+    ("run", "switches", switches.make, 1024 * KIB),
+    ("run", "orders", orders.make, 1024 * KIB),
+    ("run", "memory", memory.make, 1024 * KIB),
+    ("run", "512 bytes", large.make, 1024 * KIB),
+    ("run", "reads", memory.make_reads, 256 * KIB),
+    ("show", "packets", packets.make, 1024 * KIB),
+    ("show", "small", packets.make_small, 1024 * KIB),
+    ("show", "large", packets.make_large, 1024 * KIB),
 )
 
 
@@ -55,20 +72,55 @@ def best(program, word, data):
     return min(times)
 
 
-def measure(program, word, name, make):
-    """Prints how long the inputs of one maker take. What is wrong with a run, or None."""
-    times = []
-    for size in (512 * KIB, 1024 * KIB):
-        data, wanted, count = make(size)
-        assert len(data) <= size, len(data)
+def footprint(program, word, path):
+    """The most memory that a run held, in KB, and its page faults.
+
+    A process counts what it held before its `exec` too, so the run is the child of a small shell and not of this one;
+    when the shell has ended, the run is this process's child, and tells what it used.
+    """
+    ctypes.CDLL(None).prctl(PR_SET_CHILD_SUBREAPER, 1)
+    words = ["sh", "-c", '"$0" "$1" <"$2" >/dev/null & echo $!', program, word, path]
+    child = int(subprocess.run(words, stdout=subprocess.PIPE, check=True).stdout)
+    used = os.wait4(child, 0)[2]
+    return used.ru_maxrss, used.ru_minflt
+
+
+def instructions(program, word, path):
+    """The instructions of a run, or None where valgrind isn't installed."""
+    if not shutil.which("valgrind"):
+        return None
+    words = ["valgrind", "--tool=callgrind", "--callgrind-out-file=/dev/null", program, word]
+    with open(path, "rb") as data:
+        ran = subprocess.run(words, stdin=data, stdout=subprocess.DEVNULL, stderr=subprocess.PIPE, check=True)
+    return int(re.search(rb"Collected : (\d+)", ran.stderr)[1])
+
+
+def measure(program, word, name, make, size):
+    """Prints what the inputs of one maker take. What is wrong with a run, or None."""
+    times, counts = [], []
+    for bytes_ in (size // 2, size):
+        data, wanted, count = make(bytes_)
+        assert len(data) <= bytes_, len(data)
         wrong = judge(run(program, word, data, subprocess.PIPE), wanted)
         if wrong:
             return f"{word} on {len(data)} bytes of {name}: {wrong}"
         least = best(program, word, data)
         times.append(least)
+        with tempfile.NamedTemporaryFile() as kept:
+            kept.write(data)
+            kept.flush()
+            held, faults = footprint(program, word, kept.name)
+            done = instructions(program, word, kept.name)
+        counted = "" if done is None else f"  {done / 1e6:>7.1f}  {done / count:>8.0f}"
+        counts += [] if done is None else [done]
         rate = f"{len(data) / least / 1e6:.1f} MB"
-        print(f"{name:>9}  {len(data):>9}  {count:>7}  {len(wanted):>9}  {least * 1000:>7.1f} ms  {rate:>8}  {count / least:>9.0f}")
-    print(f"{name:>9}  ratio of the times: {times[1] / times[0]:.2f}")
+        print(
+            f"{name:>9}  {len(data):>9}  {count:>7}  {len(wanted):>9}  {least * 1000:>7.1f} ms  {rate:>8}"
+            f"  {count / least:>9.0f}  {held:>7}  {faults:>7}{counted}",
+            flush=True,
+        )
+    more = f", of the instructions: {counts[1] / counts[0]:.2f}" if counts else ""
+    print(f"{name:>9}  ratio of the times: {times[1] / times[0]:.2f}{more}", flush=True)
     return None
 
 
@@ -77,9 +129,15 @@ def main(words):
     if not os.access(program, os.X_OK):
         print(f"{program} isn't built: .ci/run builds it", file=sys.stderr)
         return 2
-    print(f"{'of':>9}  {'input':>9}  {'count':>7}  {'output':>9}  {'best of ' + str(RUNS):>10}  {'input/s':>8}  {'count/s':>9}")
-    for word, name, make in MAKERS:
-        wrong = measure(program, word, name, make)
+    counted = f"  {'million':>7}  {'instr. a':>8}" if shutil.which("valgrind") else ""
+    print(
+        f"{'of':>9}  {'input':>9}  {'count':>7}  {'output':>9}  {'best of ' + str(RUNS):>10}  {'input/s':>8}"
+        f"  {'count/s':>9}  {'KB held':>7}  {'faults':>7}{counted}"
+    )
+    if not counted:
+        print("valgrind isn't installed, so the instructions are not counted")
+    for word, name, make, size in MAKERS:
+        wrong = measure(program, word, name, make, size)
         if wrong:
             print(wrong, file=sys.stderr)
             return 1
