@@ -1,6 +1,0 @@
-use Rattle.std.proofs.Common.{sym}
-use Rattle.m3_wire.proofs.Concat.{behind4}
-use Rattle.m3_wire.proofs.spelling.put_write.Goals as goal
-
-pub returns : goal.returns
-returns c = rw (sym c.bytes.ensures) (behind4 _ _ _ _ _ _ _ _ _ _ c.in_ok-put_u8.ensures c.in_ok-put_id.ensures c.in_ok-put_place.ensures c.put_counted.ensures)
