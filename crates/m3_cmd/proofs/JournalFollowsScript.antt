@@ -10,7 +10,7 @@ use Rattle.m3_base.specs.Journal.Audit.{audit_lines}
 use Rattle.m3_base.specs.Ideal.State.{State}
 use Rattle.m3_base.specs.Setup.Rules.{SetupValue}
 use Rattle.m3_base.specs.Io.Streams.{ReadsAll}
-use Rattle.m3_trace.specs.Opening.{entry}
+use Rattle.m3_trace.specs.JournalEntry.{entry}
 use Rattle.m3_machine.specs.MachineView.{MachineValue, ideal, placement, NamesActs, IsStep}
 use Rattle.m3_script.specs.Rules.{AllInRanges, AllNamed, IsInRanges, names_undeclared, is_absent, has_program}
 use Rattle.m3_cmd.specs.Statuses.{AreOfSetup, Follows, IsTextAt, IsTextOf, OfBytes, event_of}

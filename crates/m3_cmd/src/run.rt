@@ -16,7 +16,8 @@ use crate::words::{Form, read_form};
 use m3_base::event::Event;
 use m3_base::stream::{ReadRefusal, Sink, Source, read_all, write_all};
 use m3_journal::print;
-use m3_machine::machine::{Machine, StepRefusal};
+use m3_engine::refusal::StepRefusal;
+use m3_machine::machine::Machine;
 use m3_script::{Mode, Script, ScriptRefusal, parse};
 use std::alloc::{AllocError, Global};
 

@@ -26,7 +26,8 @@ use Rattle.m3_kernel.specs.HomeTableView.{value_of}
 use Rattle.m3_kernel.specs.ActivityView.{opened_as, new_seat}
 use Rattle.m3_kernel.specs.LookupTables.{is_there_at}
 use Rattle.m3_kernel.specs.KernelStateView.{KernelAt}
-use Rattle.m3_kernel.specs.KernelOpening.{opened_site, CanOpen, AreLeft, IsOpened, left_for, new_kernel, with_new_seat, is_taken, resting_with, left_where}
+use Rattle.m3_model.specs.SetupOpening.{opened_site}
+use Rattle.m3_kernel.specs.KernelOpening.{CanOpen, AreLeft, IsOpened, left_for, new_kernel, with_new_seat, is_taken, resting_with, left_where}
 use Rattle.m3_kernel.proofs.HomeTable.{found}
 use Rattle.m3_kernel.proofs.OpenedKernel.{NoPrograms, no_programs}
 use Rattle.m3_kernel.proofs.OpeningHomes.{Found, Waits, context_at_opening, each_found_home, each_waits, stands_still, valid_apart, next_home}

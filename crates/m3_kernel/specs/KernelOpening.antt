@@ -6,23 +6,19 @@ use Rattle.m3_base.specs.Ideal.Opening.{opening}
 use Rattle.m3_base.specs.Ideal.State.{Grant}
 use Rattle.m3_base.specs.Setup.Rules.{SetupValue, IsValid}
 use Rattle.m3_model.specs.Config.Site.{Site, tile_of}
-use Rattle.m3_model.specs.Config.FromSetup.{site_of}
 use Rattle.m3_model.specs.ContextTable.{HasContexts}
 use Rattle.m3_model.specs.Kernel.State.{ActivityEntry, Kernel}
 use Rattle.m3_model.specs.Kernel.Step.{entry_of, is_placed_entry}
-use Rattle.m3_model.specs.Machine.{opened_machine}
+use Rattle.m3_model.specs.SetupOpening.{opened_by_setup, opened_site}
 use Rattle.m3_kernel.specs.ActivityView.{new_seat}
 use Rattle.m3_kernel.specs.LookupTables.{is_there_at}
 use Rattle.m3_kernel.specs.KernelStateView.{KernelAt}
 
 -- ---- the whole kernel
 
-abbrev pub opened_site : SetupValue → Site
-opened_site s = site_of s.memory [] s.lines
-
 -- of the machine that the setup opens
 abbrev pub opened_kernel : SetupValue → Kernel
-opened_kernel s = (opened_machine s.memory [] s.lines).kernel
+opened_kernel s = (opened_by_setup s).kernel
 
 -- the setup keeps all rules, and the table has just the contexts of its opening
 pub record CanOpen (s : SetupValue) (table : List (Option Context)) : Type 0 where

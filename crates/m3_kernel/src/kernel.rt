@@ -8,7 +8,8 @@ ghost use Rattle.m3_kernel.specs.ActivityView.{seats_of, place_of};
 ghost use Rattle.m3_kernel.specs.OrderAnswers.{HasNumber, HolderIsSeated, MayTakeMemory, Orders, Closes};
 ghost use Rattle.m3_kernel.specs.StepContracts.{Does};
 ghost use Rattle.m3_kernel.specs.declared.order.OrderRefusal.{OrderRefusal};
-ghost use Rattle.m3_kernel.specs.KernelOpening.{opened_site, opened_kernel, CanOpen, AreLeft};
+ghost use Rattle.m3_model.specs.SetupOpening.{opened_site};
+ghost use Rattle.m3_kernel.specs.KernelOpening.{opened_kernel, CanOpen, AreLeft};
 ghost use Rattle.m3_kernel.specs.KernelQueries.{hold_in, context_of_seat, is_seated, SeatIs};
 
 use crate::done::Done;

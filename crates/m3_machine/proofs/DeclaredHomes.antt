@@ -4,7 +4,7 @@ use Rattle.std.specs.Prelude.{is_some, is_none}
 use Rattle.m3_base.specs.Setup.Rules.{SetupValue, IsValid, facts_of, home_at}
 use Rattle.m3_model.specs.Config.Site.{Home, home_of}
 use Rattle.m3_model.specs.Config.KnownActivities.{is_home}
-use Rattle.m3_trace.specs.Opening.{site}
+use Rattle.m3_model.specs.SetupOpening.{opened_site}
 use Rattle.m3_kernel.specs.HomeTableView.{home_tile}
 use Rattle.m3_kernel.proofs.OpeningHomes.{valid_tiles}
 
@@ -13,6 +13,6 @@ home_some None r same e = absurd (let f : is_none (home_tile None) ≡ false = s
 home_some (Some x) r same e = refl
 
 -- an activity that the setup declares is one of its site
-pub declared_home : (s : SetupValue) → IsValid s → (a : ℕ) → is_none (home_at (facts_of s).homes a) ≡ false → is_home (site s) a ≡ true
+pub declared_home : (s : SetupValue) → IsValid s → (a : ℕ) → is_none (home_at (facts_of s).homes a) ≡ false → is_home (opened_site s) a ≡ true
 declared_home s v a e =
-    home_some (home_of a (site s)) (home_at (facts_of s).homes a) ((valid_tiles s v).same a) e
+    home_some (home_of a (opened_site s)) (home_at (facts_of s).homes a) ((valid_tiles s v).same a) e

@@ -1,12 +1,4 @@
-pub mod TileView
 pub mod Traversal
-pub mod MemoryView
-pub mod PartsView
-pub mod EngineView
 pub mod AuditView
-pub mod OpeningInvariant
-pub mod ReceiveRecordView
-pub mod OpenedParts
 pub mod CreditCounts
-pub mod TileStepView
 pub mod MachineView

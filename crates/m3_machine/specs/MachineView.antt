@@ -14,7 +14,8 @@ use Rattle.m3_model.specs.Abstraction.{ideal_of, placement_of}
 use Rattle.m3_base.specs.Limits.{HasRanges}
 use Rattle.m3_model.specs.Machine.{Machine, machine_step}
 use Rattle.m3_trace.specs.IdleOutcomes.{IsIdle}
-use Rattle.m3_trace.specs.Opening.{site, opened_by_setup, entry}
+use Rattle.m3_model.specs.SetupOpening.{opened_by_setup, opened_site}
+use Rattle.m3_trace.specs.JournalEntry.{entry}
 use Rattle.m3_trace.specs.Trace.{IsTrace}
 use Rattle.m3_machine.specs.declared.machine.Machine.TheInside.{Inside}
 
@@ -29,7 +30,7 @@ ideal w = ideal_of w.machine
 
 -- where each activity and each packet is
 abbrev pub placement : MachineValue → Placement
-placement w = placement_of (site w.setup) w.machine
+placement w = placement_of (opened_site w.setup) w.machine
 
 abbrev pub initial_machine : SetupValue → MachineValue
 initial_machine s = record { setup = s; machine = opened_by_setup s; entries = [] }
@@ -38,7 +39,7 @@ abbrev pub machine_value : Inside → MachineValue
 machine_value m = record { setup = m.journal.setup; machine = m.engine.machine; entries = m.journal.entries.items }
 
 pub record HasBounds (m : Inside) : Type 0 where
-  pub site : m.engine.site ≡ site m.journal.setup
+  pub site : m.engine.site ≡ opened_site m.journal.setup
   pub trace : IsTrace m.journal.setup m.journal.entries.items m.engine.machine
 
 -- ---- one step
@@ -62,5 +63,5 @@ pub record IsStep (old : MachineValue) (e : Event) (new : MachineValue) : Type 0
   pub placed : IsPlacementStep (ideal old) (placement old) (entry e outcome) (placement new)
   -- an idle outcome left both as they were
   pub idle : IsIdle outcome.said → (ideal new ≡ ideal old) × (placement new ≡ placement old)
-  pub moved : machine_step (site old.setup) old.machine e None ≡ Some (record { outcome = outcome; machine = new.machine })
+  pub moved : machine_step (opened_site old.setup) old.machine e None ≡ Some (record { outcome = outcome; machine = new.machine })
   pub setup : new.setup ≡ old.setup

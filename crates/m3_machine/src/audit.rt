@@ -12,7 +12,7 @@ ghost use Rattle.m3_trace.specs.DriverOfMachine.{tile_lines};
 
 use crate::context_table::ContextTable;
 use crate::credit_counts::{CreditCounter, CreditCounts};
-use crate::tile::TilePart;
+use m3_engine::tile::TilePart;
 use crate::traversal::visit_all;
 use m3_base::ids::{GrantId, TileId};
 use m3_base::journal::AuditLine;

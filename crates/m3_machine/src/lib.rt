@@ -1,16 +1,8 @@
-//! The machine: parts that share nothing, the links between them, its events and its journal.
+//! The machine: an engine, the journal of what it did, and the audit that closes it.
 #![tactic(auto)]
 
 mod audit;
 mod context_table;
 mod credit_counts;
-pub mod engine;
 pub mod machine;
-pub mod memory;
-mod next;
-pub mod opening;
-pub mod parts;
-mod returning;
-mod shown;
-pub mod tile;
 mod traversal;

@@ -12,12 +12,12 @@ ghost use Rattle.m3_base.specs.Setup.Rules.{IsValid};
 ghost use Rattle.m3_laws.specs.JournalLaws.{AfterEach, KeepsLaws};
 ghost use Rattle.m3_model.specs.Events.{IsServed, IsUnserved};
 ghost use Rattle.m3_trace.specs.Invariant.{PlacementRun};
-ghost use Rattle.m3_trace.specs.Opening.{entry};
+ghost use Rattle.m3_trace.specs.JournalEntry.{entry};
 ghost use Rattle.m3_machine.specs.MachineView.{initial_machine, ideal, placement, IsStep, NamesActs};
-ghost use Rattle.m3_machine.specs.declared.machine.StepRefusal.{StepRefusal};
+ghost use Rattle.m3_engine.specs.declared.refusal.StepRefusal.{StepRefusal};
 
 use crate::audit::{credit_lines, flights, tile_lines};
-use crate::engine::Engine;
+use m3_engine::engine::Engine;
 use m3_base::event::{Entry, Event, Outcome};
 use m3_base::journal::{Audit, AuditLine, Journal};
 use m3_base::setup::Setup;
@@ -46,25 +46,6 @@ impl Model for Machine {
 
 /// The most entries that a journal has.
 pub const MOST_ENTRIES: usize = 2_097_152;
-
-/// Why a step wasn't made.
-#[derive(Clone, Copy, Debug, PartialEq, Eq, Drop)]
-pub enum StepRefusal {
-    /// The journal has as many entries as it may have.
-    Spent,
-    /// No memory was left for the entry or for what it moves.
-    NoMemory,
-    /// The event is a turn or a file event, neither of which is served yet.
-    Unserved,
-}
-
-impl From<AllocError> for StepRefusal {
-    ghost from_gives = { λ _ e. e ≡ StepRefusal.NoMemory };
-
-    fn from(_error: AllocError) -> StepRefusal {
-        StepRefusal::NoMemory
-    }
-}
 
 /// A copy of an event that may be served.
 #[inline(always)]

@@ -19,3 +19,4 @@ pub mod LocalStep
 pub mod Invariant
 pub mod StayMoves
 pub mod ReadyLists
+pub mod SetupOpening

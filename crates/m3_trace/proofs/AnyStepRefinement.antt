@@ -12,7 +12,7 @@ use Rattle.m3_refine.proofs.theorem.NoProgramMoves.{IsNoTurn}
 use Rattle.m3_trace.proofs.StepRefinement.{means}
 use Rattle.m3_trace.proofs.TurnRefinement.{turn_means}
 use Rattle.m3_trace.specs.Invariant.{MachineInvariant, StepRefines}
-use Rattle.m3_trace.specs.Opening.{entry}
+use Rattle.m3_trace.specs.JournalEntry.{entry}
 
 module _ (h : Site) (m : Machine) (made : Option Made) (o : Outcome) (next : Machine) (kept : MachineInvariant h m) (low : RestoresBounded m) where
   -- of an event that no program makes

@@ -30,7 +30,7 @@ use Rattle.m3_base.specs.Placement.Step.{placement_step}
 use Rattle.m3_base.specs.Ideal.Flights.{flight}
 use Rattle.m3_base.specs.Ideal.State.{State, context_of}
 use Rattle.m3_base.specs.Ideal.Step.{RunResult, ideal_run}
-use Rattle.m3_trace.specs.Opening.{entry}
+use Rattle.m3_trace.specs.JournalEntry.{entry}
 use Rattle.m3_trace.specs.IdleOutcomes.{IsIdle}
 use Rattle.m3_trace.proofs.StepsAreNotIdle.{words_said}
 use Rattle.std.proofs.lemmas.Bool.{and_parts}

@@ -12,7 +12,7 @@ use Rattle.m3_model.specs.Config.Site.{Home, Site}
 use Rattle.m3_model.specs.Tile.State.{Tile}
 use Rattle.m3_model.specs.Machine.{Machine, with_entries, entry_at_opening, context_or_new, joined_ready, tile_at}
 use Rattle.m3_trace.specs.Invariant.{HasNoPrograms}
-use Rattle.m3_trace.specs.Opening.{site, opened_by_setup}
+use Rattle.m3_model.specs.SetupOpening.{opened_by_setup, opened_site}
 use Rattle.m3_refine.proofs.opening.OpensRefines.{first_machine}
 use Rattle.m3_refine.proofs.opening.OpensSound.{site_is, homes_of}
 
@@ -47,7 +47,7 @@ nobody_ready zero t = refl
 nobody_ready (suc n) zero = refl
 nobody_ready (suc n) (suc t) = nobody_ready n t
 
-pub opens_without_programs : (s : SetupValue) → HasNoPrograms (site s) (opened_by_setup s).kernel
+pub opens_without_programs : (s : SetupValue) → HasNoPrograms (opened_site s) (opened_by_setup s).kernel
 opens_without_programs s =
-    let plain : Each (λ x. x.has_program ≡ false) (site s).homes = subst (λ (xs : List Home). Each (λ x. x.has_program ≡ false) xs) (sym (ap (λ (x : Site). x.homes) (site_is [] (record { homes = []; quantum = 8; memory = s.memory }) s.lines))) (plain_homes s.lines) in
-    record { none = plain; ready = seats_ready (opening s.memory s.lines) (site s).homes (first_machine (opening s.memory s.lines)) plain (nobody_ready 16) }
+    let plain : Each (λ x. x.has_program ≡ false) (opened_site s).homes = subst (λ (xs : List Home). Each (λ x. x.has_program ≡ false) xs) (sym (ap (λ (x : Site). x.homes) (site_is [] (record { homes = []; quantum = 8; memory = s.memory }) s.lines))) (plain_homes s.lines) in
+    record { none = plain; ready = seats_ready (opening s.memory s.lines) (opened_site s).homes (first_machine (opening s.memory s.lines)) plain (nobody_ready 16) }

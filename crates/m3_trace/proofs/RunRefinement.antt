@@ -13,7 +13,7 @@ use Rattle.m3_model.specs.Config.Site.{Site}
 use Rattle.m3_model.specs.Machine.{Machine}
 use Rattle.m3_model.specs.Abstraction.{ideal_of, placement_of}
 use Rattle.m3_trace.specs.Invariant.{MachineInvariant, StepRefines, PlacementRun, RunRefines}
-use Rattle.m3_trace.specs.Opening.{site, opened_by_setup}
+use Rattle.m3_model.specs.SetupOpening.{opened_by_setup, opened_site}
 use Rattle.m3_trace.proofs.ValidSetup.{valid_sound, opens_as}
 use Rattle.m3_refine.proofs.bounds.MemorySize.{memory_at_opening}
 use Rattle.m3_refine.proofs.bounds.ShutGrants.{shut_at_opening}
@@ -43,11 +43,11 @@ more_ran h old mid new es e ran means = record {
 }
 
 -- a machine that a setup opens is kept
-pub opened_kept : (s : SetupValue) → IsValid s → MachineInvariant (site s) (opened_by_setup s)
+pub opened_kept : (s : SetupValue) → IsValid s → MachineInvariant (opened_site s) (opened_by_setup s)
 opened_kept s v = record {
   sound = valid_sound s v;
   law = subst Invariant (sym (opens_as s v).0) (invariant_opening s v);
-  way = opens_way (site s) (opening s.memory s.lines);
+  way = opens_way (opened_site s) (opening s.memory s.lines);
   shut = shut_at_opening s.memory [] s.lines;
   memory = memory_at_opening s.memory [] s.lines;
 }

@@ -23,7 +23,8 @@ use Rattle.m3_model.specs.KernelNumber.{HasLowKernel}
 use Rattle.m3_refine.proofs.bounds.KernelNumber.{low_kernel}
 use Rattle.m3_refine.proofs.ways.WayOpens.{opens_low_kernel}
 use Rattle.m3_trace.specs.Invariant.{StepRefines, PlacementRun}
-use Rattle.m3_trace.specs.Opening.{site, opened_by_setup, entry}
+use Rattle.m3_model.specs.SetupOpening.{opened_by_setup, opened_site}
+use Rattle.m3_trace.specs.JournalEntry.{entry}
 use Rattle.m3_trace.specs.Trace.{IsTrace}
 use Rattle.m3_trace.proofs.FlightCountBound.{journal_few}
 use Rattle.m3_trace.proofs.NoPrograms.{programs_kept}
@@ -42,30 +43,30 @@ more_fit (e ∷ es) x fit new =
 
 -- the journal of a machine that was opened has no entry
 pub opened_trace : (s : SetupValue) → IsValid s → CountersBounded 0 (opened_by_setup s) → IsTrace s [] (opened_by_setup s)
-opened_trace s valid low = record { valid = valid; few = omega arith; low = low; number = opens_low_kernel s.memory [] s.lines; programs = opens_without_programs s; ran = none_ran (site s) (opened_by_setup s) (opened_kept s valid); fit = tt }
+opened_trace s valid low = record { valid = valid; few = omega arith; low = low; number = opens_low_kernel s.memory [] s.lines; programs = opens_without_programs s; ran = none_ran (opened_site s) (opened_by_setup s) (opened_kept s valid); fit = tt }
 
 module _ (s : SetupValue) (entries : List Entry) (m : Machine) (trace : IsTrace s entries m) where
   -- what a step means
-  pub step_means : (e : Event) (o : Outcome) (next : Machine) → IsOfSetup (site s) e → IsWithin e → IsServed e → machine_step (site s) m e None ≡ Some (record { outcome = o; machine = next }) → StepRefines (site s) m (entry e o) next
-  step_means e o next own within served step = means (site s) m e o next step trace.ran.kept (low_comes (length entries) m trace.few trace.low) own within served
+  pub step_means : (e : Event) (o : Outcome) (next : Machine) → IsOfSetup (opened_site s) e → IsWithin e → IsServed e → machine_step (opened_site s) m e None ≡ Some (record { outcome = o; machine = next }) → StepRefines (opened_site s) m (entry e o) next
+  step_means e o next own within served step = means (opened_site s) m e o next step trace.ran.kept (low_comes (length entries) m trace.few trace.low) own within served
 
   -- a step adds its entry
-  pub more_trace : (e : Event) (o : Outcome) (next : Machine) → length entries < 2097152 → IsOfSetup (site s) e → IsWithin e → IsServed e → machine_step (site s) m e None ≡ Some (record { outcome = o; machine = next })
+  pub more_trace : (e : Event) (o : Outcome) (next : Machine) → length entries < 2097152 → IsOfSetup (opened_site s) e → IsWithin e → IsServed e → machine_step (opened_site s) m e None ≡ Some (record { outcome = o; machine = next })
       → IsTrace s (entries ++ entry e o ∷ []) next
   more_trace e o next room own within served step =
       let one : length (entries ++ entry e o ∷ []) ≡ length entries + 1 = length-append entries (entry e o ∷ []) in
       record {
         valid = trace.valid;
         few = omega arith;
-        low = subst (λ (n : ℕ). CountersBounded n next) (sym one) (step_low (site s) (length entries) m trace.low e (record { outcome = o; machine = next }) served step);
-        number = subst (λ (n : ℕ). HasLowKernel n next) (sym one) (low_kernel (site s) m e None (length entries) (record { outcome = o; machine = next }) trace.number step);
-        programs = programs_kept (site s) m e None (record { outcome = o; machine = next }) trace.programs step;
-        ran = more_ran (site s) (opened_by_setup s) m next entries (entry e o) trace.ran (step_means e o next own within served step);
-        fit = more_fit entries (entry e o) trace.fit (event_fits e o (setup_fits (site s) e own));
+        low = subst (λ (n : ℕ). CountersBounded n next) (sym one) (step_low (opened_site s) (length entries) m trace.low e (record { outcome = o; machine = next }) served step);
+        number = subst (λ (n : ℕ). HasLowKernel n next) (sym one) (low_kernel (opened_site s) m e None (length entries) (record { outcome = o; machine = next }) trace.number step);
+        programs = programs_kept (opened_site s) m e None (record { outcome = o; machine = next }) trace.programs step;
+        ran = more_ran (opened_site s) (opened_by_setup s) m next entries (entry e o) trace.ran (step_means e o next own within served step);
+        fit = more_fit entries (entry e o) trace.fit (event_fits e o (setup_fits (opened_site s) e own));
       }
 
   -- and so does a program's turn
-  pub more_trace_turn : (a : ℕ) (made : Option Made) (o : Outcome) (next : Machine) → length entries < 2097152 → machine_step (site s) m (Event.Turn a) made ≡ Some (record { outcome = o; machine = next })
+  pub more_trace_turn : (a : ℕ) (made : Option Made) (o : Outcome) (next : Machine) → length entries < 2097152 → machine_step (opened_site s) m (Event.Turn a) made ≡ Some (record { outcome = o; machine = next })
       → IsTrace s (entries ++ entry (Event.Turn a) o ∷ []) next
   more_trace_turn a made o next room step =
       let e = Event.Turn a in
@@ -73,10 +74,10 @@ module _ (s : SetupValue) (entries : List Entry) (m : Machine) (trace : IsTrace 
       record {
         valid = trace.valid;
         few = omega arith;
-        low = subst (λ (n : ℕ). CountersBounded n next) (sym one) (turn_step_low (site s) (length entries) m trace.low a made (record { outcome = o; machine = next }) step);
-        number = subst (λ (n : ℕ). HasLowKernel n next) (sym one) (low_kernel (site s) m e made (length entries) (record { outcome = o; machine = next }) trace.number step);
-        programs = programs_kept (site s) m e made (record { outcome = o; machine = next }) trace.programs step;
-        ran = more_ran (site s) (opened_by_setup s) m next entries (entry e o) trace.ran (turn_means (site s) m a made o next step trace.ran.kept);
+        low = subst (λ (n : ℕ). CountersBounded n next) (sym one) (turn_step_low (opened_site s) (length entries) m trace.low a made (record { outcome = o; machine = next }) step);
+        number = subst (λ (n : ℕ). HasLowKernel n next) (sym one) (low_kernel (opened_site s) m e made (length entries) (record { outcome = o; machine = next }) trace.number step);
+        programs = programs_kept (opened_site s) m e made (record { outcome = o; machine = next }) trace.programs step;
+        ran = more_ran (opened_site s) (opened_by_setup s) m next entries (entry e o) trace.ran (turn_means (opened_site s) m a made o next step trace.ran.kept);
         fit = more_fit entries (entry e o) trace.fit (event_fits e o tt);
       }
 
@@ -91,10 +92,10 @@ module _ (s : SetupValue) (entries : List Entry) (m : Machine) (trace : IsTrace 
   pub trace_reaches : state_after_entries start entries ≡ ideal_of m
   trace_reaches = ap (λ (x : State). state_after_entries x entries) (sym (opens_as s trace.valid).0) ∙ trace.ran.reaches
 
-  pub trace_places : PlacementRun start (opening_placement [] s.lines) entries (placement_of (site s) m)
+  pub trace_places : PlacementRun start (opening_placement [] s.lines) entries (placement_of (opened_site s) m)
   trace_places =
-      subst (λ (x : State). PlacementRun x (opening_placement [] s.lines) entries (placement_of (site s) m)) (opens_as s trace.valid).0 (
-      subst (λ (p : Placement). PlacementRun (ideal_of (opened_by_setup s)) p entries (placement_of (site s) m)) (opens_as s trace.valid).1 trace.ran.places
+      subst (λ (x : State). PlacementRun x (opening_placement [] s.lines) entries (placement_of (opened_site s) m)) (opens_as s trace.valid).0 (
+      subst (λ (p : Placement). PlacementRun (ideal_of (opened_by_setup s)) p entries (placement_of (opened_site s) m)) (opens_as s trace.valid).1 trace.ran.places
       )
 
   -- flights are few

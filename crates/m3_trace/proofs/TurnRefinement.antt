@@ -17,7 +17,7 @@ use Rattle.m3_refine.proofs.theorem.AnyStepMoves.{any_step_moves, step_own_move}
 use Rattle.m3_refine.proofs.ways.WaySteps.{way_kept}
 use Rattle.m3_trace.proofs.FromIdealInvariant as laws
 use Rattle.m3_trace.specs.Invariant.{MachineInvariant, StepRefines}
-use Rattle.m3_trace.specs.Opening.{entry}
+use Rattle.m3_trace.specs.JournalEntry.{entry}
 
 module _ (h : Site) (m : Machine) (a : ℕ) (made : Option Made) (o : Outcome) (next : Machine) (step : machine_step h m (Event.Turn a) made ≡ Some (record { outcome = o; machine = next })) (kept : MachineInvariant h m) where
   abbrev did : MachineResult

@@ -2,5 +2,5 @@ pub mod StepsRefine
 pub mod IdleOutcomes
 pub mod Invariant
 pub mod DriverOfMachine
-pub mod Opening
+pub mod JournalEntry
 pub mod Trace

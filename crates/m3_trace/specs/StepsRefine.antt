@@ -8,7 +8,7 @@ use Rattle.m3_model.specs.Machine.{Machine, machine_step}
 use Rattle.m3_model.specs.Events.{IsOfSetup, IsWithin}
 use Rattle.m3_model.specs.NumberBounds.{RestoresBounded}
 use Rattle.m3_trace.specs.Invariant.{MachineInvariant, StepRefines}
-use Rattle.m3_trace.specs.Opening.{entry}
+use Rattle.m3_trace.specs.JournalEntry.{entry}
 
 -- a step of a machine that keeps its invariant is a step of the ideal machine and of its placement, and the machine keeps
 -- it: a command, a take, a tend, a close, an order, or a program's turn with whatever move it makes

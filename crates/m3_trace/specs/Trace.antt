@@ -8,7 +8,7 @@ use Rattle.m3_model.specs.Machine.{Machine}
 use Rattle.m3_model.specs.NumberBounds.{CountersBounded}
 use Rattle.m3_model.specs.KernelNumber.{HasLowKernel}
 use Rattle.m3_trace.specs.Invariant.{HasNoPrograms, RunRefines}
-use Rattle.m3_trace.specs.Opening.{site, opened_by_setup}
+use Rattle.m3_model.specs.SetupOpening.{opened_by_setup, opened_site}
 
 pub record IsTrace (s : SetupValue) (entries : List Entry) (m : Machine) : Type 0 where
   pub valid : IsValid s
@@ -17,7 +17,7 @@ pub record IsTrace (s : SetupValue) (entries : List Entry) (m : Machine) : Type 
   -- and no number is larger than there are entries
   pub low : CountersBounded (length entries) m
   pub number : HasLowKernel (length entries) m
-  pub programs : HasNoPrograms (site s) m.kernel
-  pub ran : RunRefines (site s) (opened_by_setup s) entries m
+  pub programs : HasNoPrograms (opened_site s) m.kernel
+  pub ran : RunRefines (opened_site s) (opened_by_setup s) entries m
   -- what its orders name is in its ranges
   pub fit : AllFit (steps_in entries)

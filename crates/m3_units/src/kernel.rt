@@ -11,7 +11,7 @@ use m3_core::context::Context;
 use m3_core::parcel::{Emit, Parcel};
 use m3_kernel::done::{Done, done_by_order};
 use m3_kernel::kernel::Kernel;
-use m3_machine::opening::contexts;
+use m3_engine::opening::contexts;
 use std::alloc::{AllocError, Global};
 
 /// Activities 0 and 1 have their home on tile 2, and 1 has a mailbox of two slots at endpoint 0.

@@ -10,7 +10,7 @@ use m3_base::setup_line::SetupLine;
 use m3_core::parcel::{Emit, Parcel};
 use m3_kernel::kernel::Kernel;
 use m3_kernel::order::{CloseSent, OrderRefusal, Ordered};
-use m3_machine::opening::contexts;
+use m3_engine::opening::contexts;
 use std::alloc::{AllocError, Global};
 
 /// A mailbox at endpoint 0 of activity 1.

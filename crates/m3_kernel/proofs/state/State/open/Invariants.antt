@@ -1,6 +1,6 @@
 use Rattle.std.proofs.Common.{drop}
 use Rattle.m3_kernel.specs.KernelStateView.{at_site, IsKept}
-use Rattle.m3_kernel.specs.KernelOpening.{opened_site}
+use Rattle.m3_model.specs.SetupOpening.{opened_site}
 use Rattle.m3_kernel.proofs.OpenAll.{Progress}
 use Rattle.m3_kernel.proofs.state.State.open.Given as goal
 

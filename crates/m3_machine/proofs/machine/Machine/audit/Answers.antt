@@ -8,7 +8,7 @@ use Rattle.m3_kernel.specs.ActivityView.{seats_of}
 use Rattle.m3_link.specs.LinkOps.{data_on}
 use Rattle.m3_model.specs.Abstraction.{ideal_of, placement_of, flat_map, flat_links, held_by, packets_in, all_contexts, all_packets}
 use Rattle.m3_trace.specs.DriverOfMachine.{tile_lines}
-use Rattle.m3_trace.specs.Opening.{site}
+use Rattle.m3_model.specs.SetupOpening.{opened_site}
 use Rattle.m3_trace.proofs.TraceGrows.{trace_few}
 use Rattle.m3_machine.specs.AuditView.{live_lines}
 use Rattle.m3_machine.specs.Traversal.{contexts_of, packets_of}
@@ -38,7 +38,7 @@ returns c =
     ∙ ap (min most) all
     ∙ ap (λ ls. min most (length (held ++ flat_links packets_in ls))) on in
     let quiet : c.is_none.result ≡ is_none c.next.result = is_none_from c.is_none.result c.next.result c.is_none.ensures in
-    let drives : c.next.result ≡ driver.next_event (ideal_of m) (placement_of (site s) m) [] =
+    let drives : c.next.result ≡ driver.next_event (ideal_of m) (placement_of (opened_site s) m) [] =
     subst (λ (w : MachineValue). c.next.result ≡ driver.next_event (ideal w) (placement w) []) (sym c.self.view_is) c.next.ensures in
     subst (λ (w : MachineValue). c.push-2.new.self.items ≡ audit_lines w.setup.tiles (ideal w) (placement w) []) c.self.view_is (
     all_lines
@@ -56,5 +56,5 @@ returns c =
     (c.in_ok-tile_lines.ensures ∙ ap (λ ls. c.credit_lines.new.lines.items ++ ls) tiled)
     (c.in_ok-push.ensures.items ∙ ap (λ (n : ℕ). c.tile_lines.new.lines.items ++ AuditLine.Flights n ∷ []) flown)
     (c.in_ok-push-2.ensures.items ∙ ap (λ b. c.push.new.self.items ++ AuditLine.Quiet b ∷ []) quiet)
-    ∙ audited (site s) m c.self.invariant.trace.ran.kept s.tiles c.next.result (trace_few s inside.journal.entries.items m c.self.invariant.trace) drives
+    ∙ audited (opened_site s) m c.self.invariant.trace.ran.kept s.tiles c.next.result (trace_few s inside.journal.entries.items m c.self.invariant.trace) drives
     )

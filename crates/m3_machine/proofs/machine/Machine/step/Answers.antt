@@ -1,5 +1,5 @@
 use Rattle.std.proofs.Common.{◌≡◌, ◌<◌, ◌++◌, ◌∷◌, [], length, sym, subst, ◌∙◌, arith}
-use Rattle.m3_trace.specs.Opening.{entry}
+use Rattle.m3_trace.specs.JournalEntry.{entry}
 use Rattle.m3_model.specs.Events.{IsOfSetup}
 use Rattle.m3_model.specs.Config.Site.{Site}
 use Rattle.m3_machine.specs.MachineView.{MachineValue, NamesActs, IsStep}

@@ -1,0 +1,9 @@
+pub mod AllByIndex
+pub mod ContextTable
+pub mod FirstFrom
+pub mod GrantLines
+pub mod LeastTend
+pub mod OpenedParts
+pub mod OpensInBounds
+pub mod PartStep
+pub mod TileTake

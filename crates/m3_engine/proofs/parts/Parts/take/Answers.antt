@@ -1,0 +1,27 @@
+use Rattle.std.proofs.Common.{◌≡◌, ◌<◌, ◌≤◌, length, set, Some, None, sym, ap, subst, ◌∙◌, arith}
+use Rattle.std.proofs.lemmas.Bool.Decides.{nat_tests}
+use Rattle.m3_base.specs.declared.event.Event.{Event}
+use Rattle.m3_model.specs.Config.Site.{Site}
+use Rattle.m3_model.specs.Tile.Step.{tile_take}
+use Rattle.m3_model.specs.Machine.{Part, Tile_part, of_tile, part_step}
+use Rattle.m3_kernel.specs.ParcelView.{parcel_of}
+use Rattle.m3_kernel.specs.declared.done.Done.{Done}
+use Rattle.m3_engine.specs.TileStepView.{Does}
+use Rattle.m3_engine.specs.PartsView.{parts_of, part_of, DoesAt}
+use Rattle.m3_engine.proofs.PartStep.{tile_at, tile_there, read_tile}
+use Rattle.m3_engine.proofs.parts.Parts.take.Goals as goal
+
+pub returns-clause-ok : goal.returns-clause-ok
+returns-clause-ok c from =
+    let p = parts_of c.args.self.now in
+    let h = c.args.self.now.kernel.site in
+    let q = parcel_of c.args.parcel in
+    let here : c.from-at.result ≡ c.args.to = c.from-at.ensures ∙ c.number.ensures.same in
+    let high : 2 ≤ c.args.to = grind (arith, nat_tests, here, c.if-at-eq0.false, c.if-at-eq1.false) in
+    let within : c.from-at.result < length c.args.self.now.tiles.items = omega (arith, c.requires, c.from-at.ensures, c.number.ensures.range) in
+    let read = read_tile p c.from-at.result c.args.to c.index_mut.result.now here within c.index_mut.ensures.value in
+    let step : part_step h (part_of c.args.to p) (Event.Take c.args.to from) None (Some q) ≡ Some (of_tile (tile_take h c.index_mut.result.now q)) =
+    ap (λ (x : Part). part_step h x (Event.Take c.args.to from) None (Some q)) (tile_there p c.args.to high ∙ ap (λ x. Tile_part x) (sym read)) in
+    let does = subst (λ (x : Site). Does c.take-2.result c.take-2.new.self (tile_take x c.index_mut.result.now q)) c.site-2.ensures c.take-2.ensures in
+    let at = tile_at p c.from-at.result c.take-2.new.self c.args.to c.take-2.result (tile_take h c.index_mut.result.now q) (part_step h (part_of c.args.to p) (Event.Take c.args.to from) None (Some q)) here step does in
+    subst (λ (d : Done). DoesAt c.args.to p (record { site = h; kernel = p.kernel; memory = p.memory; tiles = set p.tiles c.from-at.result c.take-2.new.self }) d (part_step h (part_of c.args.to p) (Event.Take c.args.to from) None (Some q))) (sym c.done_by-2.ensures) at

@@ -1,6 +1,0 @@
-use Rattle.std.proofs.Common.{◌≡◌, length}
-use Rattle.m3_machine.proofs.OpenedParts.{tiles_to}
-use Rattle.m3_machine.proofs.opening.no_tiles.Given as goal
-
-abbrev pub invariant-loop-number : goal.invariant-loop-number
-invariant-loop-number l = (l.tiles.items ≡ tiles_to l.number) × (length l.tiles.items ≡ l.number)

@@ -1,7 +1,0 @@
-use Rattle.std.proofs.Common.{drop}
-use Rattle.m3_kernel.specs.KernelOpening.{opened_site}
-use Rattle.m3_machine.proofs.OpenedParts.{Progress}
-use Rattle.m3_machine.proofs.opening.tiles.Given as goal
-
-abbrev pub invariant-loop-home : goal.invariant-loop-home
-invariant-loop-home l = Progress l.fn.setup l.tiles.items l.table.items (drop l.home-index (opened_site l.fn.setup).homes)
