@@ -1,6 +1,6 @@
 -- What the driver does next names activities and tiles of the setup alone, where the orders that are left do.
 use Rattle.std.proofs.Common.{◌≡◌, ℕ, ◌+◌, ◌*◌, ◌<◌, Bool, true, false, List, [], ◌∷◌, Option, Some, None, refl, ◌∙◌, ap, arith}
-use Rattle.std.specs.Prelude.{not, ◌&&◌, is_some, nat_lt, slice_index_or, if◌then◌else◌}
+use Rattle.std.specs.Prelude.{not, ◌&&◌, ◌==◌, length, is_some, nat_lt, slice_index_or, if◌then◌else◌}
 use Rattle.std.specs.List.{list_any}
 use Rattle.m3_base.specs.declared.event.Event.{Event}
 use Rattle.m3_base.specs.declared.order.Order.{Order}
@@ -9,8 +9,8 @@ use Rattle.m3_base.specs.Lists.EachElement.{Each}
 use Rattle.m3_base.specs.Placement.Driver.{tiles, first_for, first_some, least_of, tend_of, close_of, order_of, switch_to}
 use Rattle.m3_base.specs.Placement.Order.{least_closing}
 use Rattle.m3_model.specs.Config.KnownActivities.{is_home}
-use Rattle.m3_model.specs.Config.Site.{Home, Site, home_has_program, home_of}
-use Rattle.m3_model.specs.Events.{IsOfSetup, IsWithin}
+use Rattle.m3_model.specs.Config.Site.{Home, Site, has_program, home_has_program, home_of}
+use Rattle.m3_model.specs.Events.{IsOfSetup, IsWithin, SuitsPrograms}
 use Rattle.m3_model.specs.Invariant.Structure.{MachineStructure}
 use Rattle.m3_model.specs.Kernel.State.{ActivityEntry}
 use Rattle.m3_model.specs.Kernel.Step.{is_moving_at, ready_at}
@@ -18,13 +18,13 @@ use Rattle.m3_model.specs.Machine.{Machine, tile_at}
 use Rattle.m3_model.specs.Parcel.{Parcel}
 use Rattle.m3_model.specs.ReadyLists.{IsReadyAt, ReadyOk}
 use Rattle.m3_model.specs.Tile.State.{Resident, Tile}
-use Rattle.m3_model.specs.Tile.Step.{resident_of}
+use Rattle.m3_model.specs.Tile.Step.{is_waiting, resident_of}
 use Rattle.m3_refine.proofs.abstraction.EntriesMatchActors.{AreSeats, are_seats}
 use Rattle.m3_refine.proofs.lists.EachElement.{InSome}
-use Rattle.m3_trace.specs.DriverOfMachine.{can_tend, can_turn, least_tend, next_event_left, next_take, next_take_at, next_take_on, take_if, take_on, turn_at, turn_by, wanted_at}
+use Rattle.m3_trace.specs.DriverOfMachine.{can_tend, least_tend, next_event_left, next_take, next_take_at, next_take_on, take_if, take_on, turn_at, turn_by, wanted_at}
 
 abbrev pub FitsSetup : Site → Event → Type 0
-FitsSetup h e = IsOfSetup h e × IsWithin e
+FitsSetup h e = IsOfSetup h e × IsWithin e × SuitsPrograms h e
 
 below : Each (λ t. t < 16) tiles
 below = (omega arith, (omega arith, (omega arith, (omega arith, (omega arith, (omega arith, (omega arith, (omega arith, (omega arith, (omega arith, (omega arith, (omega arith, (omega arith, (omega arith, (omega arith, (omega arith, tt))))))))))))))))
@@ -43,7 +43,7 @@ module _ (h : Site) where
 
   take_fits : (to from : ℕ) → to < 16 → from < 16 → (qs : List Parcel) → InSome (FitsSetup h) (take_if to from qs)
   take_fits to from a b [] = tt
-  take_fits to from a b (q ∷ qs) = (tt, (a, b))
+  take_fits to from a b (q ∷ qs) = (tt, (a, b), tt)
 
   takes_fit : (links : List (List Parcel)) (to : ℕ) → to < 16 → InSome (FitsSetup h) (next_take_at links to)
   unfolding next_take_at
@@ -76,11 +76,11 @@ module _ (h : Site) where
 
   tend_fits : (o : Option ℕ) → InSome Known o → InSome (FitsSetup h) (tend_of o)
   tend_fits None k = tt
-  tend_fits (Some a) k = (k, tt)
+  tend_fits (Some a) k = (k, tt, tt)
 
   close_fits : (o : Option ℕ) → InSome (FitsSetup h) (close_of o)
   close_fits None = tt
-  close_fits (Some g) = (tt, tt)
+  close_fits (Some g) = (tt, tt, tt)
 
   order_fits : (left : List Order) → Each (λ o. FitsSetup h (Event.Order o)) left → InSome (FitsSetup h) (order_of left)
   order_fits [] e = tt
@@ -94,15 +94,16 @@ module _ (h : Site) where
 
   switch_fits : (t : ℕ) → t < 16 → (xs : List ℕ) → Each (IsReadyAt h t) xs → InSome (FitsSetup h) (switch_to t xs)
   switch_fits t low [] e = tt
-  switch_fits t low (a ∷ xs) e = (program_home (home_of a h) e.0.1, low)
+  switch_fits t low (a ∷ xs) e = (program_home (home_of a h) e.0.1, low, tt)
 
   turn_fits : (x : Context) (o : Option Resident) → InSome (FitsSetup h) (turn_by h x o)
   turn_fits x None = tt
-  turn_fits x (Some y) = by_test (can_turn h x y)
+  turn_fits x (Some y) = by_test (has_program h x.act) (not y.ended && (not (not (length x.flying == 0)) && not (y.yield_sent && is_waiting x y))) refl
     where
-      by_test : (b : Bool) → InSome (FitsSetup h) (if b then Some (Event.Turn x.act) else None)
-      by_test true = (tt, tt)
-      by_test false = tt
+      by_test : (b c : Bool) → has_program h x.act ≡ b → InSome (FitsSetup h) (if b && c then Some (Event.Turn x.act) else None)
+      by_test true true e = (tt, tt, e)
+      by_test true false e = tt
+      by_test false c e = tt
 
   turns_fit : (t : Tile) (o : Option Context) → InSome (FitsSetup h) (turn_at h t o)
   turns_fit t None = tt

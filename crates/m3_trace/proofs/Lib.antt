@@ -7,13 +7,9 @@ pub mod StepsAreNotIdle
 pub mod StepRefinement
 pub mod TurnRefinement
 pub mod AnyStepRefinement
-pub mod DriverIsMachines
 pub mod DriverTake
-pub mod OpensWithoutPrograms
-pub mod DriverNext
 pub mod RunRefinement
 pub mod StepKeepsBounds
-pub mod NoPrograms
 pub mod TraceGrows
 pub mod ValidSetup
 pub mod DriverWithPrograms

@@ -2,7 +2,7 @@
 use Rattle.std.proofs.Common.{◌≡◌, List, [], ◌∷◌, ◌++◌, refl, sym, subst, ap, ◌∙◌}
 use Rattle.m3_base.specs.declared.event.Entry.{Entry}
 use Rattle.m3_base.specs.Ideal.State.{State}
-use Rattle.m3_base.specs.Setup.Rules.{SetupValue, IsValid}
+use Rattle.m3_base.specs.Setup.Rules.{SetupValue, IsValid, programmed_acts}
 use Rattle.m3_base.specs.Placement.State.{Placement}
 use Rattle.m3_base.specs.Placement.EntryStep.{IsPlacementStep}
 use Rattle.m3_base.specs.Journal.Entry.{EntryMatches, next_state, state_after_entries, IsRun}
@@ -48,6 +48,6 @@ opened_kept s v = record {
   sound = valid_sound s v;
   law = subst Invariant (sym (opens_as s v).0) (invariant_opening s v);
   way = opens_way (opened_site s) (opening s.memory s.lines);
-  shut = shut_at_opening s.memory [] s.lines;
-  memory = memory_at_opening s.memory [] s.lines;
+  shut = shut_at_opening s.memory (programmed_acts s.lines) s.lines;
+  memory = memory_at_opening s.memory (programmed_acts s.lines) s.lines;
 }

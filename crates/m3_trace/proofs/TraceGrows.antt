@@ -1,5 +1,5 @@
 -- A journal grows by an entry with each step of its machine, and what its clauses say of the whole.
-use Rattle.std.proofs.Common.{◌≡◌, ℕ, ◌+◌, ◌<◌, ◌≤◌, List, [], ◌∷◌, ◌++◌, length, length-append, Option, None, Some, sym, subst, ap, ◌∙◌, arith}
+use Rattle.std.proofs.Common.{◌≡◌, ℕ, ◌+◌, ◌<◌, ◌≤◌, List, [], ◌∷◌, ◌++◌, length, length-append, Option, Some, sym, subst, ap, ◌∙◌, arith}
 use Rattle.m3_base.specs.declared.event.Event.{Event}
 use Rattle.m3_base.specs.declared.event.Entry.{Entry}
 use Rattle.m3_base.specs.declared.event.Made.{Made}
@@ -8,8 +8,8 @@ use Rattle.m3_base.specs.Journal.Entry.{state_after_entries, IsRun, steps_of}
 use Rattle.m3_base.specs.Journal.Replies.{steps_in}
 use Rattle.m3_base.specs.Ideal.Opening.{opening}
 use Rattle.m3_base.specs.Placement.State.{Placement}
-use Rattle.m3_base.specs.Placement.Opening.{opening_placement}
-use Rattle.m3_base.specs.Setup.Rules.{SetupValue, IsValid}
+use Rattle.m3_base.specs.Placement.Opening.{placement_at_opening}
+use Rattle.m3_base.specs.Setup.Rules.{SetupValue, IsValid, programmed_acts}
 use Rattle.m3_base.specs.Ideal.State.{State}
 use Rattle.m3_laws.specs.JournalLaws.{KeepsLaws, AfterEach}
 use Rattle.m3_laws.specs.Laws.{AllFit}
@@ -18,7 +18,9 @@ use Rattle.m3_laws.proofs.journals.LawsAfterEntries.{fit_both, fit_front, fit_ba
 use Rattle.m3_model.specs.Abstraction.{ideal_of, placement_of}
 use Rattle.m3_model.specs.Events.{IsOfSetup, IsServed, IsWithin}
 use Rattle.m3_model.specs.NumberBounds.{CountersBounded}
-use Rattle.m3_model.specs.Machine.{Machine, machine_step}
+use Rattle.m3_model.specs.Config.Site.{Site}
+use Rattle.m3_model.specs.Machine.{Machine, MachineResult, machine_step}
+use Rattle.m3_model.specs.StayMoves.{StaysAreShort}
 use Rattle.m3_model.specs.KernelNumber.{HasLowKernel}
 use Rattle.m3_refine.proofs.bounds.KernelNumber.{low_kernel}
 use Rattle.m3_refine.proofs.ways.WayOpens.{opens_low_kernel}
@@ -27,13 +29,15 @@ use Rattle.m3_model.specs.SetupOpening.{opened_by_setup, opened_site}
 use Rattle.m3_trace.specs.JournalEntry.{entry}
 use Rattle.m3_trace.specs.Trace.{IsTrace}
 use Rattle.m3_trace.proofs.FlightCountBound.{journal_few}
-use Rattle.m3_trace.proofs.NoPrograms.{programs_kept}
-use Rattle.m3_trace.proofs.OpensWithoutPrograms.{opens_without_programs}
-use Rattle.m3_trace.proofs.StepRefinement.{setup_fits, means}
+use Rattle.m3_refine.proofs.bounds.ReadyLists.{ready_at_opening, ready_kept}
+use Rattle.m3_refine.proofs.bounds.StayMoves.{stays_at_opening, stays_kept}
+use Rattle.m3_refine.proofs.theorem.AnyStepMoves.{unasked_step}
+use Rattle.m3_refine.proofs.theorem.NoProgramMoves.{IsNoTurn}
+use Rattle.m3_trace.proofs.AnyStepRefinement.{any_means}
+use Rattle.m3_trace.proofs.StepRefinement.{setup_fits}
 use Rattle.m3_trace.proofs.RunRefinement.{none_ran, more_ran, opened_kept}
 use Rattle.m3_trace.proofs.StepKeepsBounds.{step_low, low_comes, turn_step_low}
-use Rattle.m3_trace.proofs.TurnRefinement.{turn_means}
-use Rattle.m3_trace.proofs.ValidSetup.{opens_as}
+use Rattle.m3_trace.proofs.ValidSetup.{opens_as, valid_sound}
 
 more_fit : (es : List Entry) (x : Entry) → AllFit (steps_in es) → AllFit (steps_of x.event x.outcome) → AllFit (steps_in (es ++ x ∷ []))
 more_fit [] x fit new = fit_both (steps_of x.event x.outcome) [] new tt
@@ -43,42 +47,54 @@ more_fit (e ∷ es) x fit new =
 
 -- the journal of a machine that was opened has no entry
 pub opened_trace : (s : SetupValue) → IsValid s → CountersBounded 0 (opened_by_setup s) → IsTrace s [] (opened_by_setup s)
-opened_trace s valid low = record { valid = valid; few = omega arith; low = low; number = opens_low_kernel s.memory [] s.lines; programs = opens_without_programs s; ran = none_ran (opened_site s) (opened_by_setup s) (opened_kept s valid); fit = tt }
+opened_trace s valid low =
+    record {
+      valid = valid;
+      few = omega arith;
+      low = low;
+      number = opens_low_kernel s.memory (programmed_acts s.lines) s.lines;
+      stays = stays_at_opening s.memory (programmed_acts s.lines) s.lines;
+      ready = ready_at_opening s.memory (programmed_acts s.lines) s.lines (valid_sound s valid).setup.homes;
+      ran = none_ran (opened_site s) (opened_by_setup s) (opened_kept s valid);
+      fit = tt;
+    }
 
 module _ (s : SetupValue) (entries : List Entry) (m : Machine) (trace : IsTrace s entries m) where
+  abbrev h : Site
+  h = opened_site s
+
+  module _ (made : Option Made) (d : MachineResult) where
+    other_step_low : (e : Event) → IsNoTurn e → IsServed e → machine_step h m e made ≡ Some d → CountersBounded (length entries + 1) d.machine
+    other_step_low e other served step = step_low h (length entries) m trace.low e d served (unasked_step h m e made other ∙ step)
+
+    any_step_low : (e : Event) → machine_step h m e made ≡ Some d → CountersBounded (length entries + 1) d.machine
+    any_step_low (Event.Do a c) step = other_step_low (Event.Do a c) tt tt step
+    any_step_low (Event.Take to from) step = other_step_low (Event.Take to from) tt tt step
+    any_step_low (Event.Turn a) step = turn_step_low h (length entries) m trace.low a made d step
+    any_step_low (Event.Tend a) step = other_step_low (Event.Tend a) tt tt step
+    any_step_low Event.Close step = other_step_low Event.Close tt tt step
+    any_step_low (Event.Order order) step = other_step_low (Event.Order order) tt tt step
+    any_step_low (Event.File line) step = absurd (cc)
+
   -- what a step means
-  pub step_means : (e : Event) (o : Outcome) (next : Machine) → IsOfSetup (opened_site s) e → IsWithin e → IsServed e → machine_step (opened_site s) m e None ≡ Some (record { outcome = o; machine = next }) → StepRefines (opened_site s) m (entry e o) next
-  step_means e o next own within served step = means (opened_site s) m e o next step trace.ran.kept (low_comes (length entries) m trace.few trace.low) own within served
+  pub step_means : (e : Event) (made : Option Made) (o : Outcome) (next : Machine) → IsOfSetup h e → IsWithin e → machine_step h m e made ≡ Some (record { outcome = o; machine = next }) → StepRefines h m (entry e o) next
+  step_means e made o next own within step = any_means h m made o next trace.ran.kept (low_comes (length entries) m trace.few trace.low) e own within step
 
   -- a step adds its entry
-  pub more_trace : (e : Event) (o : Outcome) (next : Machine) → length entries < 2097152 → IsOfSetup (opened_site s) e → IsWithin e → IsServed e → machine_step (opened_site s) m e None ≡ Some (record { outcome = o; machine = next })
+  pub more_trace : (e : Event) (made : Option Made) (o : Outcome) (next : Machine) → length entries < 2097152 → IsOfSetup h e → IsWithin e → machine_step h m e made ≡ Some (record { outcome = o; machine = next })
       → IsTrace s (entries ++ entry e o ∷ []) next
-  more_trace e o next room own within served step =
+  more_trace e made o next room own within step =
+      let d : MachineResult = record { outcome = o; machine = next } in
       let one : length (entries ++ entry e o ∷ []) ≡ length entries + 1 = length-append entries (entry e o ∷ []) in
       record {
         valid = trace.valid;
         few = omega arith;
-        low = subst (λ (n : ℕ). CountersBounded n next) (sym one) (step_low (opened_site s) (length entries) m trace.low e (record { outcome = o; machine = next }) served step);
-        number = subst (λ (n : ℕ). HasLowKernel n next) (sym one) (low_kernel (opened_site s) m e None (length entries) (record { outcome = o; machine = next }) trace.number step);
-        programs = programs_kept (opened_site s) m e None (record { outcome = o; machine = next }) trace.programs step;
-        ran = more_ran (opened_site s) (opened_by_setup s) m next entries (entry e o) trace.ran (step_means e o next own within served step);
-        fit = more_fit entries (entry e o) trace.fit (event_fits e o (setup_fits (opened_site s) e own));
-      }
-
-  -- and so does a program's turn
-  pub more_trace_turn : (a : ℕ) (made : Option Made) (o : Outcome) (next : Machine) → length entries < 2097152 → machine_step (opened_site s) m (Event.Turn a) made ≡ Some (record { outcome = o; machine = next })
-      → IsTrace s (entries ++ entry (Event.Turn a) o ∷ []) next
-  more_trace_turn a made o next room step =
-      let e = Event.Turn a in
-      let one : length (entries ++ entry e o ∷ []) ≡ length entries + 1 = length-append entries (entry e o ∷ []) in
-      record {
-        valid = trace.valid;
-        few = omega arith;
-        low = subst (λ (n : ℕ). CountersBounded n next) (sym one) (turn_step_low (opened_site s) (length entries) m trace.low a made (record { outcome = o; machine = next }) step);
-        number = subst (λ (n : ℕ). HasLowKernel n next) (sym one) (low_kernel (opened_site s) m e made (length entries) (record { outcome = o; machine = next }) trace.number step);
-        programs = programs_kept (opened_site s) m e made (record { outcome = o; machine = next }) trace.programs step;
-        ran = more_ran (opened_site s) (opened_by_setup s) m next entries (entry e o) trace.ran (turn_means (opened_site s) m a made o next step trace.ran.kept);
-        fit = more_fit entries (entry e o) trace.fit (event_fits e o tt);
+        low = subst (λ (n : ℕ). CountersBounded n next) (sym one) (any_step_low made d e step);
+        number = subst (λ (n : ℕ). HasLowKernel n next) (sym one) (low_kernel h m e made (length entries) d trace.number step);
+        stays = subst (λ (n : ℕ). StaysAreShort n next) (sym one) (stays_kept h (length entries) m trace.stays e made d step);
+        ready = ready_kept h m e made d trace.ready step;
+        ran = more_ran h (opened_by_setup s) m next entries (entry e o) trace.ran (step_means e made o next own within step);
+        fit = more_fit entries (entry e o) trace.fit (event_fits e o (setup_fits h e own));
       }
 
   -- ---- what the journal is
@@ -92,9 +108,9 @@ module _ (s : SetupValue) (entries : List Entry) (m : Machine) (trace : IsTrace 
   pub trace_reaches : state_after_entries start entries ≡ ideal_of m
   trace_reaches = ap (λ (x : State). state_after_entries x entries) (sym (opens_as s trace.valid).0) ∙ trace.ran.reaches
 
-  pub trace_places : PlacementRun start (opening_placement [] s.lines) entries (placement_of (opened_site s) m)
+  pub trace_places : PlacementRun start (placement_at_opening s.lines) entries (placement_of (opened_site s) m)
   trace_places =
-      subst (λ (x : State). PlacementRun x (opening_placement [] s.lines) entries (placement_of (opened_site s) m)) (opens_as s trace.valid).0 (
+      subst (λ (x : State). PlacementRun x (placement_at_opening s.lines) entries (placement_of (opened_site s) m)) (opens_as s trace.valid).0 (
       subst (λ (p : Placement). PlacementRun (ideal_of (opened_by_setup s)) p entries (placement_of (opened_site s) m)) (opens_as s trace.valid).1 trace.ran.places
       )
 

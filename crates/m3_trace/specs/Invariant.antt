@@ -1,15 +1,12 @@
 -- What holds of the machine between any two steps, and what a step of it means.
-use Rattle.std.specs.Prelude.{◌≡◌, ℕ, false, List, [], ◌∷◌}
+use Rattle.std.specs.Prelude.{◌≡◌, List, [], ◌∷◌}
 use Rattle.m3_base.specs.declared.event.Entry.{Entry}
 use Rattle.m3_base.specs.Journal.Entry.{EntryMatches, next_state, state_after_entries, IsRun}
 use Rattle.m3_base.specs.Ideal.State.{State}
-use Rattle.m3_base.specs.Lists.EachElement.{Each}
 use Rattle.m3_base.specs.Placement.State.{Placement}
 use Rattle.m3_base.specs.Placement.EntryStep.{IsPlacementStep}
 use Rattle.m3_laws.specs.Invariant.{Invariant}
 use Rattle.m3_model.specs.Config.Site.{Site}
-use Rattle.m3_model.specs.Kernel.State.{Kernel}
-use Rattle.m3_model.specs.Kernel.Step.{ready_at}
 use Rattle.m3_model.specs.Machine.{Machine}
 use Rattle.m3_model.specs.Abstraction.{ideal_of, placement_of}
 use Rattle.m3_model.specs.LocalMoves.{MovesByEntry}
@@ -17,11 +14,6 @@ use Rattle.m3_model.specs.Invariant.Structure.{MachineStructure}
 use Rattle.m3_model.specs.MemorySize.{HasMemorySize}
 use Rattle.m3_model.specs.ShutGrants.{SentAreShut}
 use Rattle.m3_model.specs.Ways.{IsOnWay}
-
--- no activity has a program, so none is ready
-pub record HasNoPrograms (h : Site) (k : Kernel) : Type 0 where
-  pub none : Each (λ x. x.has_program ≡ false) h.homes
-  pub ready : (t : ℕ) → ready_at t k ≡ []
 
 pub record MachineInvariant (h : Site) (m : Machine) : Type 0 where
   -- its places are in order

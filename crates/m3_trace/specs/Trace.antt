@@ -7,7 +7,9 @@ use Rattle.m3_laws.specs.Laws.{AllFit}
 use Rattle.m3_model.specs.Machine.{Machine}
 use Rattle.m3_model.specs.NumberBounds.{CountersBounded}
 use Rattle.m3_model.specs.KernelNumber.{HasLowKernel}
-use Rattle.m3_trace.specs.Invariant.{HasNoPrograms, RunRefines}
+use Rattle.m3_model.specs.ReadyLists.{ReadyOk}
+use Rattle.m3_model.specs.StayMoves.{StaysAreShort}
+use Rattle.m3_trace.specs.Invariant.{RunRefines}
 use Rattle.m3_model.specs.SetupOpening.{opened_by_setup, opened_site}
 
 pub record IsTrace (s : SetupValue) (entries : List Entry) (m : Machine) : Type 0 where
@@ -17,7 +19,9 @@ pub record IsTrace (s : SetupValue) (entries : List Entry) (m : Machine) : Type 
   -- and no number is larger than there are entries
   pub low : CountersBounded (length entries) m
   pub number : HasLowKernel (length entries) m
-  pub programs : HasNoPrograms (opened_site s) m.kernel
+  pub stays : StaysAreShort (length entries) m
+  -- who is ready is at its tile and has a program
+  pub ready : ReadyOk (opened_site s) m.kernel
   pub ran : RunRefines (opened_site s) (opened_by_setup s) entries m
   -- what its orders name is in its ranges
   pub fit : AllFit (steps_in entries)
