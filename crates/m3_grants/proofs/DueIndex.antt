@@ -8,7 +8,7 @@ use Rattle.m3_base.specs.declared.order.GrantLine.{GrantLine}
 use Rattle.m3_base.specs.declared.packet.Fresh.{Fresh}
 use Rattle.m3_base.specs.Ideal.State.{parent_of}
 use Rattle.m3_base.specs.declared.grants.node.Node.{Node}
-use Rattle.m3_grants.specs.BitSet.{has_place, IsFirst}
+use Rattle.m3_bit_set.specs.BitSet.{has_place, IsFirst}
 use Rattle.m3_base.specs.Setup.GrantTable.{new_node}
 use Rattle.m3_grants.specs.NodeView.{is_due, first_due}
 use Rattle.m3_grants.specs.DueIndexView.{is_due_in, parents_of, HasParent, IsIndexed}

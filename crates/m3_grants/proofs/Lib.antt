@@ -1,5 +1,4 @@
 pub mod StandingChanges
-pub mod WordBits
 pub mod MarkDone
 pub mod DueIndex
 pub mod SiblingList

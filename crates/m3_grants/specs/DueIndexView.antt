@@ -3,7 +3,7 @@ use Rattle.std.specs.Prelude.{◌≡◌, ℕ, ◌≤◌, Bool, false, List, leng
 use Rattle.m3_base.specs.Ideal.State.{parent_of}
 use Rattle.m3_base.specs.declared.grants.node.Node.{Node}
 use Rattle.m3_grants.specs.NodeView.{is_due}
-use Rattle.m3_grants.specs.BitSet.{has_place}
+use Rattle.m3_bit_set.specs.BitSet.{has_place}
 
 abbrev pub is_due_in : Option Node → Bool
 is_due_in None = false

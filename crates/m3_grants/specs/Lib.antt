@@ -2,6 +2,5 @@ pub mod DueIndexView
 pub mod SiblingListView
 pub mod Siblings
 pub mod NodeView
-pub mod BitSet
 pub mod GrantTree
 pub mod SubtreeWalk

@@ -1,6 +1,6 @@
 //! The tree of grants.
 
-ghost use Rattle.std.specs.Prelude.{◌≡◌, true, ◌+◌, ◌≤◌, ◌&&◌, [], length, IfOk, OnOk, OnErr, None, Some, is_some};
+ghost use Rattle.std.specs.Prelude.{◌≡◌, ◌≢◌, true, ◌+◌, ◌≤◌, ◌&&◌, [], length, IfOk, OnOk, OnErr, None, Some, Err, is_some};
 ghost use Rattle.std.specs.List.{list_any};
 ghost use Rattle.m3_base.specs.Ideal.GrantRules.{make_refusal, revoke_refusal, after_revoke, holds_at, fresh_of};
 ghost use Rattle.m3_base.specs.Placement.Order.{least_closing};
@@ -8,6 +8,7 @@ ghost use Rattle.m3_base.specs.Setup.Rules.{facts_of};
 ghost use Rattle.m3_base.specs.Ideal.State.{grant_in, undone};
 ghost use Rattle.m3_base.specs.Setup.GrantTable.{with_made, is_live_in, Stands};
 ghost use Rattle.m3_grants.specs.GrantTree.{cause_in, cause_of, after_line, line_in, holder_in, IsHeld, IsChildless, is_sent_in, is_undone_in, with_sent, with_done, root_of};
+ghost use Rattle.m3_grants.specs.declared.refusal.GrantRefusal.{GrantRefusal};
 
 use crate::changes::{add_child, mark_done, mark_root, mark_sent, remove_child};
 use crate::nodes::Nodes;
@@ -215,11 +216,13 @@ impl Grants {
     }
 
     /// All live grants under this one, and this one, are closing, and this one is the root of the revoke. `NoGrant`
-    /// exactly where it doesn't exist or is done, `Closing` exactly where it isn't live; then nothing has changed.
+    /// exactly where it doesn't exist or is done, `Closing` exactly where it isn't live; then nothing has changed. It is
+    /// never refused for want of memory.
     pub fn revoke(&mut self, g: GrantId) -> Result<(), GrantRefusal>
         ensures ok { OnOk result (self.new ≡ record self.old { grants = after_revoke self.old.grants g }) }
         ensures kept { OnErr result (self.new ≡ self.old) }
         ensures refused { cause_of result ≡ revoke_refusal (grant_in self.old.grants g) }
+        ensures memory { result ≢ Err GrantRefusal.NoMemory }
     {
         match self.open(g) {
             None => Err(GrantRefusal::NoGrant),

@@ -1,7 +1,6 @@
 //! The kernel's grants: who holds which, what was made under which, and which are to be closed next.
 #![tactic(auto)]
 
-mod bit_set;
 mod changes;
 pub mod grants;
 mod nodes;

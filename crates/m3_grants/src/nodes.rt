@@ -7,13 +7,13 @@ ghost use Rattle.m3_grants.specs.Siblings.{IsPrevious, IsLast};
 ghost use Rattle.m3_grants.specs.DueIndexView.{parents_of, HasParent};
 ghost use Rattle.m3_base.specs.Ideal.State.{parent_of};
 
-use crate::bit_set::BitSet;
 use crate::siblings::Siblings;
 use m3_base::grants::node::{Node, Stage};
 use m3_base::grants::node_at;
 use m3_base::ids::GrantId;
 use m3_base::order::GrantLine;
 use m3_base::packet::Fresh;
+use m3_bit_set::bit_set::BitSet;
 use std::alloc::{AllocError, Global};
 use std::marker::Model;
 

@@ -1,8 +1,8 @@
 use Rattle.std.proofs.Common.{◌≡◌, ◌/◌, ◌%◌, ◌<◌, true, arith}
 use Rattle.std.proofs.lemmas.Bool.Decides.{nat_tests}
-use Rattle.m3_grants.specs.BitSet.{has_bit}
-use Rattle.m3_grants.proofs.WordBits.{filled_insert}
-use Rattle.m3_grants.proofs.bit_set.BitSet.insert.Goals as goal
+use Rattle.m3_bit_set.specs.BitSet.{has_bit}
+use Rattle.m3_bit_set.proofs.WordBits.{filled_insert}
+use Rattle.m3_bit_set.proofs.bit_set.BitSet.insert.Goals as goal
 
 pub invariant_of-self : goal.invariant_of-self
 invariant_of-self c =

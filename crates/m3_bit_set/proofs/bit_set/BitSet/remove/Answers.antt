@@ -1,7 +1,7 @@
 use Rattle.std.proofs.Common.{◌≡◌, ◌∙◌, ◌/◌, ◌<◌, ◌≤◌, get_or, arith}
 use Rattle.std.proofs.lemmas.Grind.{get_or_default_zero}
-use Rattle.m3_grants.proofs.WordBits.{filled_left}
-use Rattle.m3_grants.proofs.bit_set.BitSet.remove.Goals as goal
+use Rattle.m3_bit_set.proofs.WordBits.{filled_left}
+use Rattle.m3_bit_set.proofs.bit_set.BitSet.remove.Goals as goal
 
 pub invariant_of-self-else-left-eq0 : goal.invariant_of-self-else-left-eq0
 invariant_of-self-else-left-eq0 c =

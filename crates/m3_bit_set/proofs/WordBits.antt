@@ -4,7 +4,7 @@ use Rattle.std.specs.Prelude.{if◌then◌else◌, ◌==◌, nat_lt}
 use Rattle.std.specs.Int.{bit_at}
 use Rattle.std.proofs.lemmas.Bool.Decides.{nat_tests}
 use Rattle.std.proofs.lemmas.Nat.Bits.{bit_at_set_same, bit_at_set_other, bit_at_clear_same, bit_at_clear_other, bit_at-zero}
-use Rattle.m3_grants.specs.BitSet.{has_bit, IsFilled}
+use Rattle.m3_bit_set.specs.BitSet.{has_bit, IsFilled}
 
 pub is_set : (word k : ℕ) → bit_at word k ≡ 1 → has_bit word k ≡ true
 is_set word k e = rw e refl

@@ -1,7 +1,7 @@
 //! A set of places, of which the least is found at once.
 
 ghost use Rattle.std.specs.Prelude.{◌≡◌, ℕ, ◌<◌, ◌≤◌, ◌==◌, ◌&&◌, ◌||◌, not, true, false, IfOk};
-ghost use Rattle.m3_grants.specs.BitSet.{has_bit, has_place, IsFirst};
+ghost use Rattle.m3_bit_set.specs.BitSet.{has_bit, has_place, IsFirst};
 
 use std::alloc::{AllocError, Global};
 use std::marker::Model;
@@ -17,7 +17,7 @@ pub struct BitSet {
 
 impl Model for BitSet {
     ghost use Rattle.std.specs.Prelude.{ℕ, List};
-    ghost use Rattle.m3_grants.specs.BitSet.{IsFilled};
+    ghost use Rattle.m3_bit_set.specs.BitSet.{IsFilled};
 
     ghost Value = { List ℕ };
 

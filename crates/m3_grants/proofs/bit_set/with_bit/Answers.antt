@@ -1,5 +1,0 @@
-use Rattle.m3_grants.proofs.WordBits.{has_set}
-use Rattle.m3_grants.proofs.bit_set.with_bit.Goals as goal
-
-pub returns : goal.returns
-returns c i = has_set c.args.word c.args.k i c.requires
