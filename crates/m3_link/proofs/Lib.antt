@@ -1,3 +1,4 @@
 pub mod Room
 pub mod CountData
+pub mod Occupancy
 pub mod UpdateOneLink

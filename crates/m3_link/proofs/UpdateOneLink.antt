@@ -12,7 +12,7 @@ use Rattle.m3_link.specs.LinksView.{Wires, lists_in, spare_in, wires_of}
 
 module _ (links : List (VecDeque Parcel Global)) (k : ℕ) (r : VecDeque Parcel Global) (within : k < length links) (read : r ≡ get_or links k r)
     (w : Wires) (view : wires_of links ≡ w) (j : ℕ) (here : k ≡ j) where
-  list_here : r.items ≡ list_at w.lists j
+  pub list_here : r.items ≡ list_at w.lists j
   list_here = sym (get_or-map (λ l. l.items) links k r [] within ∙ ap (λ l. l.items) (sym read)) ∙ (λ i. list_at (view i).lists (here i))
 
   spare_here : spare_in r ≡ spare_at w.spare j

@@ -1,5 +1,5 @@
 -- What the links hold, and how many more parcels each has a place for.
-use Rattle.std.specs.Prelude.{ℕ, ◌+◌, ◌-◌, ◌*◌, ◌<◌, ◌≤◌, Bool, true, false, List, [], ◌∷◌, ◌++◌, Option, Some, None, drop, slice_set, slice_index_or}
+use Rattle.std.specs.Prelude.{◌≡◌, ℕ, ◌+◌, ◌-◌, ◌*◌, ◌<◌, ◌≤◌, Bool, true, false, not, List, [], ◌∷◌, ◌++◌, Option, Some, None, drop, slice_set, slice_index_or}
 use Rattle.m3_core.specs.declared.parcel.Parcel.{Parcel}
 
 -- the link from one tile to another, among all
@@ -31,6 +31,25 @@ module _ {X : Type 0} where
   abbrev pub is_nil : List X → Bool
   is_nil [] = true
   is_nil (x ∷ xs) = false
+
+-- ---- the least link that isn't empty, by the receiving tile, then by the sending tile
+
+module _ {X : Type 0} where
+  -- the link from one tile to another has a parcel
+  abbrev pub has_parcel : List (List X) → ℕ → ℕ → Bool
+  has_parcel links from to = not (is_nil (list_at links (place from to)))
+
+  -- it is this one; the places of the links back are in that order
+  pub record IsLeastTo (links : List (List X)) (to from : ℕ) : Type 0 where
+    pub to_low : to < 16
+    pub from_low : from < 16
+    pub some : has_parcel links from to ≡ true
+    pub least : (f t : ℕ) → f < 16 → place t f < place to from → has_parcel links f t ≡ false
+
+  -- the receiving and the sending tile of it, if any
+  abbrev pub IsLeastLink : List (List X) → Option (ℕ × ℕ) → Type 0
+  IsLeastLink links None = (f t : ℕ) → f < 16 → t < 16 → has_parcel links f t ≡ false
+  IsLeastLink links (Some (to, from)) = IsLeastTo links to from
 
 -- ---- spare places
 

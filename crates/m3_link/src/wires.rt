@@ -1,10 +1,12 @@
 //! The links: for each ordered pair of tiles the parcels on their way, first in, first out.
 
-ghost use Rattle.std.specs.Prelude.{◌≡◌, ℕ, ◌+◌, ◌*◌, ◌<◌, ◌≤◌, min, length, replicate, [], OnOk, IfOk, IsSome, option_copied, map, false, nat_le};
-ghost use Rattle.m3_link.specs.LinkOps.{place, list_at, with_pushed, with_popped, first, put_back, parcel_at, is_nil, spare_at, with_one_less, with_freed, HasRoom, IsRoomier, data_in, data_on};
+ghost use Rattle.std.specs.Prelude.{◌≡◌, ℕ, ◌+◌, ◌*◌, ◌<◌, ◌≤◌, ◌==◌, ◌&&◌, ◌||◌, not, min, length, replicate, [], OnOk, IfOk, IsSome, option_copied, map, false, nat_le};
+ghost use Rattle.m3_link.specs.LinkOps.{place, list_at, with_pushed, with_popped, first, put_back, parcel_at, is_nil, spare_at, with_one_less, with_freed, HasRoom, IsRoomier, IsLeastLink, data_in, data_on};
+ghost use Rattle.m3_bit_set.specs.BitSet.{has_place};
 ghost use Rattle.m3_link.specs.LinksView.{lists_in, spare_in, marks_noted};
 
 use m3_base::ids::TileId;
+use m3_bit_set::bit_set::BitSet;
 use m3_core::parcel::Parcel;
 use std::alloc::{AllocError, Global};
 use std::collections::VecDeque;
@@ -18,6 +20,9 @@ pub struct Wires {
     links: Vec<VecDeque<Parcel>>,
     /// For each tile whether it is known that each link from it has two spare places.
     roomy: Vec<bool>,
+    /// The links that aren't empty, the one from a tile to another at 16 * to + from: the least place is the least
+    /// receiving tile, then the least sending tile.
+    occupancy: BitSet,
 }
 
 impl Model for Wires {
@@ -29,7 +34,7 @@ impl Model for Wires {
 
     ghost use Rattle.m3_link.specs.LinksView.{IsWhole};
 
-    ghost invariant = { λ w. IsWhole w.links.items w.roomy.items };
+    ghost invariant = { λ w. IsWhole w.links.items w.roomy.items w.occupancy };
 }
 
 /// The place of a link among all.
@@ -80,6 +85,30 @@ fn note_room(roomy: &mut Vec<bool>, from: TileId, still: bool)
     }
 }
 
+/// The link is in the set.
+fn insert_link(occupancy: &mut BitSet, from: TileId, to: TileId)
+    ensures { (i : ℕ) → has_place occupancy.new i ≡ (i == place to from || has_place occupancy.old i) }
+{
+    occupancy.insert(place(to, from));
+}
+
+/// The link isn't in the set, where it is empty.
+fn remove_link_if(occupancy: &mut BitSet, is_empty: bool, from: TileId, to: TileId)
+    ensures { (i : ℕ) → has_place occupancy.new i ≡ (not (is_empty && (i == place to from)) && has_place occupancy.old i) }
+{
+    if is_empty {
+        occupancy.remove(place(to, from));
+    }
+}
+
+/// The tiles of a link by its place in the set: the receiving one, then the sending one.
+fn ends(at: usize) -> (TileId, TileId)
+    requires { at < 256 }
+    ensures { at ≡ place result.0 result.1 }
+{
+    (TileId::new((at / 16) as u8), TileId::new((at % 16) as u8))
+}
+
 /// Makes room for two more parcels on each link from this tile.
 fn reserve_row(links: &mut Vec<VecDeque<Parcel>>, from: TileId) -> Result<(), AllocError>
     requires { length links.old.items ≡ 256 }
@@ -125,7 +154,12 @@ impl Wires {
     {
         let links = no_parcels(alloc)?;
         let roomy = no_room(alloc)?;
-        Ok(Wires { links, roomy })
+        let occupancy = BitSet::new(alloc)?;
+        Ok(Wires {
+            links,
+            roomy,
+            occupancy,
+        })
     }
 
     /// Makes room for two more parcels on each link from this tile, as many as one event sends.
@@ -156,6 +190,7 @@ impl Wires {
         link.push_back_reserved(parcel);
         let still = is_roomy(link);
         note_room(&mut self.roomy, from, still);
+        insert_link(&mut self.occupancy, from, to);
     }
 
     /// The front of this link leaves it, and its place is spare. None exactly where the link is empty.
@@ -167,8 +202,11 @@ impl Wires {
         ensures more { IsRoomier self.old.spare self.new.spare }
         ensures left { IsSome result → 0 < spare_at self.new.spare (place from to) }
     {
-        let at = place(from, to);
-        self.links[at].pop_front()
+        let link = &mut self.links[place(from, to)];
+        let parcel = link.pop_front();
+        let is_empty = link.is_empty();
+        remove_link_if(&mut self.occupancy, is_empty, from, to);
+        parcel
     }
 
     /// The parcel is the front of this link again, which has a spare place. It takes no memory.
@@ -181,6 +219,7 @@ impl Wires {
         let at = place(from, to);
         self.links[at].push_front_reserved(parcel);
         note_room(&mut self.roomy, from, false);
+        insert_link(&mut self.occupancy, from, to);
     }
 
     /// How many parcels are on this link.
@@ -208,6 +247,18 @@ impl Wires {
     {
         let at = place(from, to);
         self.links[at].is_empty()
+    }
+
+    /// The link that isn't empty with the least receiving tile, then the least sending tile: the receiving tile and the
+    /// sending one. None exactly where all links are empty.
+    #[inline(always)]
+    pub fn first(&self) -> Option<(TileId, TileId)>
+        ensures { IsLeastLink self.now.lists result }
+    {
+        match self.occupancy.first() {
+            Some(at) => Some(ends(at)),
+            None => None,
+        }
     }
 
     /// All links, the one from a tile to another at 16 * from + to.

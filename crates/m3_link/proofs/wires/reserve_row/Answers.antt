@@ -1,4 +1,4 @@
-use Rattle.std.proofs.Common.{◌≡◌, ◌+◌, ◌<◌, ◌≤◌, ℕ, List, map, length, length-set, set, arith, subst, sym, ap, ◌∙◌, refl, ⊎_elim}
+use Rattle.std.proofs.Common.{◌≡◌, ◌<◌, ℕ, map, length, length-set, set, arith, sym, ap, ◌∙◌, refl, ⊎_elim}
 use Rattle.std.proofs.lemmas.Bool.{cases_eq}
 use Rattle.m3_link.specs.LinkOps.{place, spare_at}
 use Rattle.m3_link.specs.LinksView.{spare_in, wires_of}

@@ -1,6 +1,9 @@
 use Rattle.std.proofs.Common.{◌<◌, ◌≡◌, ℕ, arith, ◌∷◌, List, Bool, false, map, length, length-set, set, subst, sym, ap, ◌∙◌, refl}
-use Rattle.m3_link.specs.LinkOps.{place, with_one_less}
-use Rattle.m3_link.specs.LinksView.{spare_in, wires_of, AreRoomy}
+use Rattle.m3_link.specs.LinkOps.{list_at, place, with_one_less}
+use Rattle.m3_link.specs.LinksView.{lists_in, spare_in, wires_of, AreRoomy, IsOccupancy}
+use Rattle.m3_core.specs.declared.parcel.Parcel.{Parcel}
+use Rattle.std.proofs.lemmas.List.{length-map}
+use Rattle.m3_link.proofs.Occupancy.{occupied_more}
 use Rattle.m3_link.proofs.UpdateOneLink.{list_set, spare_filled}
 use Rattle.m3_link.proofs.Room.{unmarked, length_noted}
 use Rattle.m3_link.proofs.wires.Wires.put_back.Goals as goal
@@ -23,6 +26,11 @@ invariant_of-self c =
     let now : map spare_in (set links c.place-at.result c.push_front_reserved.new.self) ≡ with_one_less (map spare_in links) j =
     spare_filled links c.place-at.result c.index_mut.result.now within c.index_mut.ensures.value (wires_of links) refl j c.place-at.ensures.value
     c.push_front_reserved.new.self c.push_front_reserved.ensures.len c.push_front_reserved.ensures.capacity in
+    let lists : lists_in (set links c.place-at.result c.push_front_reserved.new.self) ≡ set (lists_in links) j (c.args.parcel ∷ list_at (lists_in links) j) =
+    list_set links c.place-at.result c.index_mut.result.now within c.index_mut.ensures.value (wires_of links) refl j c.place-at.ensures.value
+    c.push_front_reserved.new.self (λ ps. c.args.parcel ∷ ps) c.push_front_reserved.ensures.items in
+    let from_low : c.args.from < 16 = omega (arith, c.place-at.ensures.value, c.place-at.ensures.range) in
+    let full : length (lists_in links) ≡ 256 = length-map links (λ l. l.items) ∙ c.self.invariant.count in
     record {
       count = length-set links c.place-at.result c.push_front_reserved.new.self ∙ c.self.invariant.count;
       tiles = ap length c.note_room.ensures ∙ length_noted false c.args.from c.self.inside.roomy.items ∙ c.self.invariant.tiles;
@@ -31,5 +39,10 @@ invariant_of-self c =
           subst (λ (marks : List Bool). AreRoomy marks (with_one_less (map spare_in links) j)) (sym c.note_room.ensures) (
           unmarked c.self.inside.roomy.items (map spare_in links) c.args.from c.args.to c.place-at.ensures.low c.self.invariant.roomy
           )
+          );
+      occupancy =
+          subst (λ (ls : List (List Parcel)). IsOccupancy ls c.insert_link.new.occupancy) (sym lists) (
+          occupied_more (lists_in links) c.self.inside.occupancy c.insert_link.new.occupancy c.args.from c.args.to from_low c.place-at.ensures.low full c.self.invariant.occupancy
+          (c.args.parcel ∷ list_at (lists_in links) j) refl c.insert_link.ensures
           );
     }
