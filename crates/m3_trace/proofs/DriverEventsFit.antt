@@ -21,7 +21,8 @@ use Rattle.m3_model.specs.Tile.State.{Resident, Tile}
 use Rattle.m3_model.specs.Tile.Step.{is_waiting, resident_of}
 use Rattle.m3_refine.proofs.abstraction.EntriesMatchActors.{AreSeats, are_seats}
 use Rattle.m3_refine.proofs.lists.EachElement.{InSome}
-use Rattle.m3_trace.specs.DriverOfMachine.{can_tend, least_tend, next_event_left, next_take, next_take_at, next_take_on, take_if, take_on, turn_at, turn_by, wanted_at}
+use Rattle.m3_model.specs.Kernel.Driver.{can_tend, least_tend, wanted_at}
+use Rattle.m3_trace.specs.DriverOfMachine.{next_event_left, next_take, next_take_at, next_take_on, take_if, take_on, turn_at, turn_by}
 
 abbrev pub FitsSetup : Site → Event → Type 0
 FitsSetup h e = IsOfSetup h e × IsWithin e × SuitsPrograms h e

@@ -9,7 +9,7 @@ use Rattle.m3_model.specs.Kernel.State.{ActivityEntry}
 use Rattle.m3_model.specs.Kernel.Step.{is_placed_entry, is_leaving_entry}
 use Rattle.m3_model.specs.Machine.{Machine}
 use Rattle.m3_model.specs.Abstraction.{actor_in, placement_of}
-use Rattle.m3_trace.specs.DriverOfMachine.{can_tend, least_tend}
+use Rattle.m3_model.specs.Kernel.Driver.{can_tend, least_tend}
 use Rattle.m3_model.specs.Invariant.Structure.{MachineStructure}
 use Rattle.m3_refine.proofs.abstraction.EntriesMatchActors.{SeatOf, AreSeats, are_seats, actor_place, actor_hold, length-names, placed_same, leaving_same}
 

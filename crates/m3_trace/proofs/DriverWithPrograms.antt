@@ -26,7 +26,8 @@ use Rattle.m3_refine.proofs.opening.HomesAndContexts.{some_there}
 use Rattle.m3_trace.proofs.DriverTake.{first_same, next_is_driver}
 use Rattle.m3_trace.proofs.DriverTendClose.{tend_same}
 use Rattle.m3_trace.proofs.FromIdealInvariant as laws
-use Rattle.m3_trace.specs.DriverOfMachine.{next_event_left, turn_at, turn_by, wanted_at}
+use Rattle.m3_model.specs.Kernel.Driver.{wanted_at}
+use Rattle.m3_trace.specs.DriverOfMachine.{next_event_left, turn_at, turn_by}
 use Rattle.m3_trace.specs.Invariant.{MachineInvariant}
 
 -- the places know who is current

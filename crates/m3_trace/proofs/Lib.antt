@@ -1,3 +1,4 @@
+pub mod hearing
 pub mod DriverTendClose
 pub mod FlightCountBound
 pub mod CountFlights
@@ -11,6 +12,7 @@ pub mod DriverTake
 pub mod RunRefinement
 pub mod StepKeepsBounds
 pub mod TraceGrows
+pub mod ProgramCalls
 pub mod ValidSetup
 pub mod DriverWithPrograms
 pub mod DriverEventsFit

@@ -1,9 +1,10 @@
 -- A journal grows by an entry with each step of its machine, and what its clauses say of the whole.
-use Rattle.std.proofs.Common.{◌≡◌, ℕ, ◌+◌, ◌<◌, ◌≤◌, List, [], ◌∷◌, ◌++◌, length, length-append, Option, Some, sym, subst, ap, ◌∙◌, arith}
+use Rattle.std.proofs.Common.{◌≡◌, ◌≢◌, ℕ, true, ◌+◌, ◌<◌, ◌≤◌, List, [], ◌∷◌, ◌++◌, length, length-append, Option, Some, refl, sym, subst, ap, ◌∙◌, arith}
 use Rattle.m3_base.specs.declared.event.Event.{Event}
 use Rattle.m3_base.specs.declared.event.Entry.{Entry}
 use Rattle.m3_base.specs.declared.event.Made.{Made}
 use Rattle.m3_base.specs.declared.event.Outcome.{Outcome}
+use Rattle.m3_base.specs.Calls.JournalCalls.{all_calls, last_input}
 use Rattle.m3_base.specs.Journal.Entry.{state_after_entries, IsRun, steps_of}
 use Rattle.m3_base.specs.Journal.Replies.{steps_in}
 use Rattle.m3_base.specs.Ideal.Opening.{opening}
@@ -18,17 +19,25 @@ use Rattle.m3_laws.proofs.journals.LawsAfterEntries.{fit_both, fit_front, fit_ba
 use Rattle.m3_model.specs.Abstraction.{ideal_of, placement_of}
 use Rattle.m3_model.specs.Events.{IsOfSetup, IsServed, IsWithin}
 use Rattle.m3_model.specs.NumberBounds.{CountersBounded}
-use Rattle.m3_model.specs.Config.Site.{Site}
-use Rattle.m3_model.specs.Machine.{Machine, MachineResult, machine_step}
+use Rattle.m3_model.specs.Config.KnownActivities.{is_home}
+use Rattle.m3_model.specs.Config.Site.{Site, tile_of}
+use Rattle.m3_model.specs.Machine.{Machine, MachineResult, machine_step, tile_at}
+use Rattle.m3_model.specs.Tile.Ask.{Program_turn, turn_ask}
+use Rattle.m3_model.specs.Tile.State.{Seen, Waits}
 use Rattle.m3_model.specs.StayMoves.{StaysAreShort}
 use Rattle.m3_model.specs.KernelNumber.{HasLowKernel}
 use Rattle.m3_refine.proofs.bounds.KernelNumber.{low_kernel}
 use Rattle.m3_refine.proofs.ways.WayOpens.{opens_low_kernel}
-use Rattle.m3_trace.specs.Invariant.{StepRefines, PlacementRun}
+use Rattle.m3_trace.specs.Hearing.{HearsAs, call_asked, input_of_seen}
+use Rattle.m3_trace.specs.Invariant.{StepRefines, PlacementRun, RunRefines}
 use Rattle.m3_model.specs.SetupOpening.{opened_by_setup, opened_site}
 use Rattle.m3_trace.specs.JournalEntry.{entry}
 use Rattle.m3_trace.specs.Trace.{IsTrace}
 use Rattle.m3_trace.proofs.FlightCountBound.{journal_few}
+use Rattle.m3_trace.proofs.hearing.AskedAreHeard.{asked_input, calls_after, hears_after, no_waiting_asked, waits_fly}
+use Rattle.m3_trace.proofs.hearing.EndsAreLast.{ends_after, opening_ends}
+use Rattle.m3_trace.proofs.hearing.OpeningHears.{opening_hears}
+use Rattle.m3_trace.proofs.hearing.StrangersAreSilent.{silent_after}
 use Rattle.m3_refine.proofs.bounds.ReadyLists.{ready_at_opening, ready_kept}
 use Rattle.m3_refine.proofs.bounds.StayMoves.{stays_at_opening, stays_kept}
 use Rattle.m3_refine.proofs.theorem.AnyStepMoves.{unasked_step}
@@ -57,7 +66,18 @@ opened_trace s valid low =
       ready = ready_at_opening s.memory (programmed_acts s.lines) s.lines (valid_sound s valid).setup.homes;
       ran = none_ran (opened_site s) (opened_by_setup s) (opened_kept s valid);
       fit = tt;
+      hears = opening_hears s valid;
+      waits = waits_fly (opened_site s) (opened_by_setup s) (opening s.memory s.lines) [] tt (sym (opens_as s valid).0) (opening_hears s valid);
+      ends = opening_ends s valid;
+      strangers = λ a e. refl;
     }
+
+-- the journal is a run from the opening, and leads to what the machine stands for
+runs_from : (s : SetupValue) → IsValid s → (entries : List Entry) (m : Machine) → RunRefines (opened_site s) (opened_by_setup s) entries m → IsRun (opening s.memory s.lines) entries × (state_after_entries (opening s.memory s.lines) entries ≡ ideal_of m)
+runs_from s valid entries m ran = (
+  subst (λ (x : State). IsRun x entries) (opens_as s valid).0 ran.run,
+  ap (λ (x : State). state_after_entries x entries) (sym (opens_as s valid).0) ∙ ran.reaches,
+)
 
 module _ (s : SetupValue) (entries : List Entry) (m : Machine) (trace : IsTrace s entries m) where
   abbrev h : Site
@@ -80,12 +100,20 @@ module _ (s : SetupValue) (entries : List Entry) (m : Machine) (trace : IsTrace 
   pub step_means : (e : Event) (made : Option Made) (o : Outcome) (next : Machine) → IsOfSetup h e → IsWithin e → machine_step h m e made ≡ Some (record { outcome = o; machine = next }) → StepRefines h m (entry e o) next
   step_means e made o next own within step = any_means h m made o next trace.ran.kept (low_comes (length entries) m trace.few trace.low) e own within step
 
+  -- and what programs are to see after it
+  hears_more : (e : Event) (made : Option Made) (o : Outcome) (next : Machine) → IsWithin e → machine_step h m e made ≡ Some (record { outcome = o; machine = next }) → HearsAs h (opening s.memory s.lines) (entries ++ entry e o ∷ []) next
+  hears_more e made o next within step =
+      hears_after h m trace.ran.kept.sound (low_comes (length entries) m trace.few trace.low) (opening s.memory s.lines) entries (runs_from s trace.valid entries m trace.ran).1 trace.hears e within made o next step
+
   -- a step adds its entry
   pub more_trace : (e : Event) (made : Option Made) (o : Outcome) (next : Machine) → length entries < 2097152 → IsOfSetup h e → IsWithin e → machine_step h m e made ≡ Some (record { outcome = o; machine = next })
       → IsTrace s (entries ++ entry e o ∷ []) next
   more_trace e made o next room own within step =
       let d : MachineResult = record { outcome = o; machine = next } in
       let one : length (entries ++ entry e o ∷ []) ≡ length entries + 1 = length-append entries (entry e o ∷ []) in
+      let ran = more_ran h (opened_by_setup s) m next entries (entry e o) trace.ran (step_means e made o next own within step) in
+      let runs = runs_from s trace.valid (entries ++ entry e o ∷ []) next ran in
+      let hears = hears_more e made o next within step in
       record {
         valid = trace.valid;
         few = omega arith;
@@ -93,8 +121,13 @@ module _ (s : SetupValue) (entries : List Entry) (m : Machine) (trace : IsTrace 
         number = subst (λ (n : ℕ). HasLowKernel n next) (sym one) (low_kernel h m e made (length entries) d trace.number step);
         stays = subst (λ (n : ℕ). StaysAreShort n next) (sym one) (stays_kept h (length entries) m trace.stays e made d step);
         ready = ready_kept h m e made d trace.ready step;
-        ran = more_ran h (opened_by_setup s) m next entries (entry e o) trace.ran (step_means e made o next own within step);
+        ran = ran;
         fit = more_fit entries (entry e o) trace.fit (event_fits e o (setup_fits h e own));
+        hears = hears;
+        waits = waits_fly h next (opening s.memory s.lines) (entries ++ entry e o ∷ []) runs.0 runs.1 hears;
+        ends = λ a known. ends_after h m trace.ran.kept.sound a known (no_waiting_asked h m trace.ran.kept.sound a known trace.waits) (opening s.memory s.lines) entries (trace.ends a known) e within made o next step
+            (calls_after h m trace.ran.kept.sound a known (opening s.memory s.lines) entries trace.hears e made o next step);
+        strangers = λ a stranger. silent_after h m a stranger (opening s.memory s.lines) entries (trace.strangers a stranger) e made o next step;
       }
 
   -- ---- what the journal is
@@ -103,10 +136,10 @@ module _ (s : SetupValue) (entries : List Entry) (m : Machine) (trace : IsTrace 
   start = opening s.memory s.lines
 
   pub trace_run : IsRun start entries
-  trace_run = subst (λ (x : State). IsRun x entries) (opens_as s trace.valid).0 trace.ran.run
+  trace_run = (runs_from s trace.valid entries m trace.ran).0
 
   pub trace_reaches : state_after_entries start entries ≡ ideal_of m
-  trace_reaches = ap (λ (x : State). state_after_entries x entries) (sym (opens_as s trace.valid).0) ∙ trace.ran.reaches
+  trace_reaches = (runs_from s trace.valid entries m trace.ran).1
 
   pub trace_places : PlacementRun start (placement_at_opening s.lines) entries (placement_of (opened_site s) m)
   trace_places =
@@ -117,6 +150,19 @@ module _ (s : SetupValue) (entries : List Entry) (m : Machine) (trace : IsTrace 
   -- flights are few
   pub trace_few : length (ideal_of m).flights ≤ 4294967295
   trace_few = subst (λ (x : State). length x.flights ≤ 4294967295) trace_reaches (journal_few s.memory s.lines entries trace.few)
+
+  -- no turn asks a program for a move before it has the answer that it waits for
+  pub asked_are_heard : (a n : ℕ) → is_home h a ≡ true → turn_ask h (tile_at (tile_of h a) m) a ≢ Program_turn (Waits n)
+  asked_are_heard a n known = no_waiting_asked h m trace.ran.kept.sound a known trace.waits n
+
+  -- what a turn asks a program with is what it is to see
+  pub asked_with : (a : ℕ) (seen : Seen) → is_home h a ≡ true → turn_ask h (tile_at (tile_of h a) m) a ≡ Program_turn seen → last_input a start entries ≡ input_of_seen seen
+  asked_with a seen known asks = trace.hears a known ∙ asked_input h m trace.ran.kept.sound a known seen asks
+
+  -- a step calls a program just where its turn asks it, with what it sees
+  pub calls_grow : (a : ℕ) → is_home h a ≡ true → (e : Event) (made : Option Made) (o : Outcome) (next : Machine) → machine_step h m e made ≡ Some (record { outcome = o; machine = next })
+      → all_calls a start (entries ++ entry e o ∷ []) ≡ all_calls a start entries ++ call_asked h m a e o
+  calls_grow a known e made o next step = calls_after h m trace.ran.kept.sound a known start entries trace.hears e made o next step
 
   -- the laws hold after every entry
   pub trace_laws : AfterEach (KeepsLaws start) entries

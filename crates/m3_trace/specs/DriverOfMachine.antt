@@ -1,17 +1,15 @@
 -- What the driver does next, and the closing lines on tiles, of a machine.
-use Rattle.std.specs.Prelude.{ℕ, zero, suc, ◌+◌, ◌-◌, ◌*◌, Bool, false, not, ◌&&◌, ◌||◌, ◌==◌, List, [], ◌∷◌, length, map, slice_index_or, Option, Some, None, if◌then◌else◌}
+use Rattle.std.specs.Prelude.{ℕ, zero, suc, ◌+◌, ◌-◌, ◌*◌, Bool, not, ◌&&◌, ◌==◌, List, [], ◌∷◌, length, map, slice_index_or, Option, Some, None, if◌then◌else◌}
 use Rattle.m3_base.specs.declared.event.Event.{Event}
 use Rattle.m3_base.specs.declared.journal.AuditLine.{AuditLine}
-use Rattle.m3_base.specs.Placement.Driver.{tiles, first_for, first_some, least_of, tend_of, close_of, order_of, switch_to}
+use Rattle.m3_base.specs.Placement.Driver.{tiles, first_for, first_some, tend_of, close_of, order_of}
 use Rattle.m3_base.specs.Placement.Order.{least_closing}
-use Rattle.std.specs.List.{list_any}
 use Rattle.m3_base.specs.declared.order.Order.{Order}
 use Rattle.m3_base.specs.Ideal.Context.{Context}
 use Rattle.m3_model.specs.Config.Site.{Site, has_program}
 use Rattle.m3_model.specs.Tile.State.{Resident, Tile}
 use Rattle.m3_model.specs.Tile.Step.{is_waiting, resident_of}
-use Rattle.m3_model.specs.Kernel.State.{ActivityEntry, Kernel}
-use Rattle.m3_model.specs.Kernel.Step.{is_placed_entry, is_leaving_entry, is_moving_at, ready_at}
+use Rattle.m3_model.specs.Kernel.Driver.{least_tend, next_switch}
 use Rattle.m3_model.specs.Machine.{Machine, tile_at}
 use Rattle.m3_model.specs.Abstraction.{current_act}
 
@@ -34,29 +32,6 @@ module _ {X : Type 0} where
 abbrev pub next_take : Machine → Option Event
 next_take m = next_take_on m.links
 
--- the activity is away, and something is held for it
-abbrev pub can_tend : ActivityEntry → Bool
-can_tend x = not (is_placed_entry x.seating || is_leaving_entry x.seating) && not (length x.hold == 0)
-
-abbrev pub least_tend : List ActivityEntry → Option ℕ
-least_tend [] = None
-least_tend (x ∷ xs) = if can_tend x then Some (least_of (least_tend xs) x.act) else least_tend xs
-
--- then the tend of the least activity that can be tended, then a close where a grant is due
-abbrev pub next_of : Option Event → Kernel → Option Event
-next_of take k = first_some (take ∷ tend_of (least_tend k.seats) ∷ close_of (least_closing k.grants 1 k.grants) ∷ [])
-
--- what the driver does next, where no program makes a move, no Yield was taken and no order is left
-abbrev pub next_event : Machine → Option Event
-next_event m = next_of (next_take m) m.kernel
-
--- ---- with programs, and orders that are left
-
--- a Yield was taken and nobody of the tile moves: the switch to the front of its ready list
-abbrev pub wanted_at : Site → Kernel → ℕ → Option Event
-wanted_at h k t =
-    if not (list_any (is_moving_at h t) k.seats) && slice_index_or k.yielded t false then switch_to t (ready_at t k) else None
-
 -- the program of the tile's current activity can make a turn that isn't idle
 abbrev pub can_turn : Site → Context → Resident → Bool
 can_turn h x y =
@@ -70,6 +45,7 @@ abbrev pub turn_at : Site → Tile → Option Context → Option Event
 turn_at h t None = None
 turn_at h t (Some x) = turn_by h x (resident_of x.act t)
 
+-- what the driver does next, with these orders left
 abbrev pub next_event_left : Site → Machine → List Order → Option Event
 next_event_left h m left =
     first_some (
@@ -77,7 +53,7 @@ next_event_left h m left =
     ∷ tend_of (least_tend m.kernel.seats)
     ∷ close_of (least_closing m.kernel.grants 1 m.kernel.grants)
     ∷ order_of left
-    ∷ first_for tiles (wanted_at h m.kernel)
+    ∷ next_switch h m.kernel
     ∷ first_for tiles (λ t. turn_at h (tile_at t m) (tile_at t m).current)
     ∷ []
     )

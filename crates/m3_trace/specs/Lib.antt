@@ -3,4 +3,7 @@ pub mod IdleOutcomes
 pub mod Invariant
 pub mod DriverOfMachine
 pub mod JournalEntry
+pub mod Hearing
+pub mod ProgramEnds
 pub mod Trace
+pub mod ProgramsHear

@@ -1,11 +1,19 @@
-//! What holds of a machine along whole runs: it stays sound, its journal is a run of the ideal machine, and the driver's
-//! next event is that of the state and the placement that it stands for. Theorems over definitions; no code.
+//! What holds of a machine along whole runs: it stays sound, its journal is a run of the ideal machine, its programs hear
+//! what the journal says, and the driver's next event is that of the state and the placement that it stands for. Theorems
+//! over definitions; no code.
 #![tactic(auto)]
 
+ghost use Rattle.m3_trace.specs.ProgramsHear.{ProgramsHear};
 ghost use Rattle.m3_trace.specs.StepsRefine.{StepsRefine};
 
 /// A local step of a part, with what it does to links, is a step of the ideal machine and of its placement. Whoever makes
 /// local steps one after the other, in one thread or merged from many, has the ideal machine's run by it.
 pub fn steps_refine()
     ensures { StepsRefine }
+{}
+
+/// A program sees at each of its turns what the journal says, wherever its context was when that came: its replies and the
+/// answers to its commands, in their order. It is called just where its turn asks it, and not after its end.
+pub fn programs_hear()
+    ensures { ProgramsHear }
 {}

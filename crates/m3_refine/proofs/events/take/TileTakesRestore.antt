@@ -68,7 +68,7 @@ module _ (h : Site) (m : Machine) (t : ℕ) (low : 2 ≤ t) (high : t < 16) (sou
   nobody : (tile_at t m).current ≡ None
   nobody = restore_fits h m sound t low high c xs qs g
 
-  ok : ParcelOk h m.kernel m.tiles 0 t (Restore c.act c xs)
+  pub ok : ParcelOk h m.kernel m.tiles 0 t (Restore c.act c xs)
   ok = pop_front m.links 0 t zero_low high sound.links (Restore c.act c xs) qs g (ParcelOk h m.kernel m.tiles) sound.parcels
 
   its : KnownActivity h m c.act
@@ -186,7 +186,7 @@ module _ (h : Site) (m : Machine) (t : ℕ) (low : 2 ≤ t) (high : t < 16) (sou
 
   -- ---- its stay begins
 
-  abbrev begun : Resident
+  abbrev pub begun : Resident
   begun = resident_at_restore xs stay.0
 
   now : tile_at t n ≡ come
@@ -198,7 +198,7 @@ module _ (h : Site) (m : Machine) (t : ℕ) (low : 2 ≤ t) (high : t < 16) (sou
   stay_there : resident_of c.act (tile_at t n) ≡ Some stay.0
   stay_there = ap (resident_of c.act) now ∙ stay.1
 
-  abbrev restored : Machine
+  abbrev pub restored : Machine
   restored = with_part t (Tile_part (with_resident begun (with_current (Some c) (tile_at t m)))) (with_link 0 t qs m)
 
   same : restayed h n t high come_sound c come_here stay.0 begun stay_there z_act ≡ restored
@@ -219,7 +219,7 @@ module _ (h : Site) (m : Machine) (t : ℕ) (low : 2 ≤ t) (high : t < 16) (sou
       ∙ ap (places_state.with_actor (actor_by its.home (entry_of its.home.act m.kernel) (Some begun))) come_places
       ∙ ap (λ (x : PlacedActivity). places_take.new_stay (Some x) (places_state.with_current t (Some c.act) q)) (sym its_actor)
 
-  step : machine_step h m (Event.Take t 0) None ≡ Some (record { outcome = record { made = None; said = Said.Current c.act; restore = None }; machine = restored })
+  pub step : machine_step h m (Event.Take t 0) None ≡ Some (record { outcome = record { made = None; said = Said.Current c.act; restore = None }; machine = restored })
   step =
       let x = tile_at t m in
       let left = with_link 0 t qs m in

@@ -1,0 +1,17 @@
+pub mod OutcomesTell
+pub mod KernelKeepsAnswers
+pub mod KernelTellsAnswers
+pub mod TileTellsAnswers
+pub mod TurnTellsReplies
+pub mod LinksBringAnswers
+pub mod StepTellsAnswers
+pub mod TakeTellsAnswers
+pub mod EventTellsAnswers
+pub mod CommandsFly
+pub mod PendingFlies
+pub mod OpeningHears
+pub mod JournalGrows
+pub mod AskedAreHeard
+pub mod PartEnds
+pub mod EndsAreLast
+pub mod StrangersAreSilent
