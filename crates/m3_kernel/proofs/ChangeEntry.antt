@@ -1,6 +1,6 @@
 -- The data after a seat has changed.
 use Rattle.std.proofs.Common.{◌≡◌, ℕ, ◌<◌, Bool, true, false, cond, List, [], ◌∷◌, ◌++◌, length, get_or, set, Some, Result, Ok, Err, OnOk, refl, sym, ap, ◌∙◌, subst, arith}
-use Rattle.std.specs.Prelude.{slice_get, ◌==◌, ◌||◌}
+use Rattle.std.specs.Prelude.{slice_get, ◌==◌, ◌||◌, ◌&&◌, not}
 use Rattle.std.proofs.lemmas.Bool.Decides.{nat_tests}
 use Rattle.std.proofs.lemmas.List.{set-get_or, get_or-map}
 use Rattle.std.proofs.lemmas.Option.{slice_get-get_or}
@@ -10,7 +10,7 @@ use Rattle.m3_model.specs.Parcel.{Parcel, Data}
 use Rattle.m3_model.specs.Kernel.State.{EntryResidency, Is_placed, Is_leaving, Is_resting, Is_coming, ActivityEntry, Kernel}
 use Rattle.m3_model.specs.Kernel.Step.{with_entry, is_placed_entry, is_leaving_entry, is_coming_entry, Routed, route_to, with_held}
 use Rattle.m3_kernel.specs.ActivityView.{seat_value, seats_of, seating_of, place_of, HasRoom}
-use Rattle.m3_kernel.specs.LookupTables.{IsOnly, is_of, AreTables}
+use Rattle.m3_kernel.specs.LookupTables.{IsOnly, is_of, AreTables, IsHeldSet}
 use Rattle.m3_kernel.specs.KernelStateView.{kernel_in, IsKept, RoomFor}
 use Rattle.m3_kernel.specs.declared.seat.Place.{Place}
 use Rattle.m3_kernel.specs.declared.seat.Seating.{Seating as CodeSeating}
@@ -18,6 +18,8 @@ use Rattle.m3_kernel.specs.declared.seat.Seat.{Seat as CodeSeat}
 use Rattle.m3_kernel.specs.declared.state.State.{State}
 use Rattle.m3_kernel.proofs.UniqueElement.{get_set}
 use Rattle.m3_kernel.proofs.TableLookup.{seat_here}
+use Rattle.m3_bit_set.specs.BitSet.{has_place}
+use Rattle.m3_kernel.proofs.HeldSet.{held_same, held_with, held_without}
 use Rattle.m3_kernel.proofs.TablesAfterChange.{tables_sits}
 use Rattle.m3_kernel.proofs.ReplaceEntry.{own_place, with_seat_set, seats_set}
 
@@ -99,6 +101,26 @@ module _ (s : State) (kept : IsKept s) (at : ℕ) (x y : CodeSeat) (within : at 
   tables_now act leaves there =
       subst (λ (xs : List ActivityEntry). AreTables h xs s.index.items s.berths.items) (sym (seats_set s.seats.items at y)) (
       tables_sits h k.seats s.index.items s.berths.items kept.tables at v w here act leaves there
+      )
+
+  -- what is held for it is as it was
+  pub held_now : w.act ≡ v.act → w.hold ≡ v.hold → IsHeldSet (seats_of items_now) s.held
+  held_now act hold =
+      subst (λ (xs : List ActivityEntry). IsHeldSet xs s.held) (sym (seats_set s.seats.items at y)) (
+      held_same k.seats at v w here act s.held s.held kept.held hold refl
+      )
+
+  pub held_added : (held : List ℕ) → w.act ≡ v.act → ((i : ℕ) → has_place held i ≡ ((i == w.act) || has_place s.held i)) → IsHeldSet (seats_of items_now) held
+  held_added held act set_is =
+      subst (λ (xs : List ActivityEntry). IsHeldSet xs held) (sym (seats_set s.seats.items at y)) (
+      held_with k.seats at v w here act s.held held kept.held set_is
+      )
+
+  pub held_removed : (held : List ℕ) → w.act ≡ v.act → (b : Bool) → b ≡ (length w.hold == 0) → ((i : ℕ) → has_place held i ≡ (not (b && (i == w.act)) && has_place s.held i)) → (v.hold ≡ [] → w.hold ≡ []) → IsHeldSet (seats_of items_now) held
+  held_removed held act b empty set_is less =
+      subst (λ (xs : List ActivityEntry). IsHeldSet xs held) (sym (seats_set s.seats.items at y)) (
+      held_without k.seats at v w here act s.held held kept.held b empty (own_place h k.seats s.index.items s.berths.items kept.tables at v here) set_is
+      (λ none. less (kept.held at v here (ap (has_place s.held) (sym act) ∙ none)))
       )
 
   pub kernel_now : w.act ≡ v.act → with_entry w k ≡ record k { seats = seats_of items_now }

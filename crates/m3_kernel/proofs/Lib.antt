@@ -4,7 +4,9 @@ pub mod ChangeEntry
 pub mod StepOutcome
 pub mod HeardAnswer
 pub mod HomeTable
+pub mod ProgrammedActs
 pub mod ReplaceEntry
+pub mod JoinReady
 pub mod UniqueElement
 pub mod FindEntry
 pub mod TablesAfterChange
@@ -17,3 +19,5 @@ pub mod OpenedKernel
 pub mod OrderSteps
 pub mod OpeningHomes
 pub mod OpenAll
+pub mod next_event
+pub mod HeldSet

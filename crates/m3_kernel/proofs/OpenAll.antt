@@ -1,5 +1,5 @@
 -- A kernel in which one more activity has its seat, and then all.
-use Rattle.std.proofs.Common.{◌≡◌, ℕ, zero, suc, ◌+◌, ◌<◌, ◌≤◌, Bool, true, false, List, [], ◌∷◌, ◌++◌, length, get_or, set, drop, map, replicate, Option, Some, None, refl, sym, ap, ◌∙◌, subst, arith, ⊎_elim}
+use Rattle.std.proofs.Common.{◌≡◌, ℕ, zero, suc, ◌+◌, ◌<◌, ◌≤◌, Bool, true, false, cond, ◌⊎◌, inl, inr, List, [], ◌∷◌, ◌++◌, length, get_or, set, drop, map, replicate, Option, Some, None, refl, sym, ap, ◌∙◌, subst, arith, ⊎_elim}
 use Rattle.std.specs.Prelude.{◌==◌, ◌&&◌, ◌||◌, is_some}
 use Rattle.std.specs.List.{list_any}
 use Rattle.std.proofs.lemmas.Bool.{cases_eq, cases_lt}
@@ -13,13 +13,13 @@ use Rattle.m3_base.specs.Lists.EachElement.{Each}
 use Rattle.m3_base.specs.Ideal.Context.{Context}
 use Rattle.m3_base.specs.Ideal.State.{State, same_act}
 use Rattle.m3_base.specs.Ideal.Opening.{opening}
-use Rattle.m3_base.specs.Setup.Rules.{SetupValue, IsValid, facts_of}
+use Rattle.m3_base.specs.Setup.Rules.{SetupValue, facts_of, programmed_acts}
 use Rattle.m3_base.proofs.SetupObligations.{valid_ties}
-use Rattle.m3_model.specs.Config.Site.{Home, Site, tile_of, tile_in}
+use Rattle.m3_model.specs.Config.Site.{Home, Site, has_program, home_has_program, tile_of, tile_in}
 use Rattle.m3_model.specs.Invariant.Distinct.{DistinctHomes}
 use Rattle.m3_model.specs.Tile.State.{Tile}
 use Rattle.m3_model.specs.Kernel.State.{ActivityEntry, Kernel}
-use Rattle.m3_model.specs.Kernel.Step.{entry_act, entry_of, is_placed_entry, is_coming_entry}
+use Rattle.m3_model.specs.Kernel.Step.{entry_act, entry_of, join_ready, is_placed_entry, is_coming_entry}
 use Rattle.m3_model.specs.Machine.{Machine, empty_tile, empty_tiles, new_stay, first_there, residency_at_opening, joined_ready, entry_at_opening, with_entries, opened_machine}
 use Rattle.m3_kernel.specs.declared.site.Home.{Home as CodeHome}
 use Rattle.m3_kernel.specs.HomeTableView.{value_of}
@@ -27,9 +27,8 @@ use Rattle.m3_kernel.specs.ActivityView.{opened_as, new_seat}
 use Rattle.m3_kernel.specs.LookupTables.{is_there_at}
 use Rattle.m3_kernel.specs.KernelStateView.{KernelAt}
 use Rattle.m3_model.specs.SetupOpening.{opened_site}
-use Rattle.m3_kernel.specs.KernelOpening.{CanOpen, AreLeft, IsOpened, left_for, new_kernel, with_new_seat, is_taken, resting_with, left_where}
-use Rattle.m3_kernel.proofs.HomeTable.{found}
-use Rattle.m3_kernel.proofs.OpenedKernel.{NoPrograms, no_programs}
+use Rattle.m3_kernel.specs.KernelOpening.{CanOpen, IsOpened, left_for, new_kernel, with_new_seat, is_taken, resting_with, left_where}
+use Rattle.m3_kernel.proofs.HomeTable.{found, get_or_replicated}
 use Rattle.m3_kernel.proofs.OpeningHomes.{Found, Waits, context_at_opening, each_found_home, each_waits, stands_still, valid_apart, next_home}
 use Rattle.m3_base.proofs.KernelNumber.{kernel_next-with_lines}
 
@@ -59,6 +58,37 @@ pub each_true : (P : Home → Type 0) → ((x : Home) → P x) → (xs : List Ho
 each_true P f [] = tt
 each_true P f (x ∷ xs) = (f x, each_true P f xs)
 
+-- who isn't seated yet isn't ready
+abbrev pub Unready : List (List ℕ) → Home → Type 0
+Unready ready x = list_any (λ b. b == x.act) (get_or ready x.tile []) ≡ false
+
+any_more : (a b : ℕ) (xs : List ℕ) → list_any (λ c. c == b) xs ≡ false → (a == b) ≡ false → list_any (λ c. c == b) (xs ++ a ∷ []) ≡ false
+any_more a b xs e d = list_any-append (λ c. c == b) xs (a ∷ []) ∙ ap (λ p. p || ((a == b) || false)) e ∙ ap (λ p. p || false) d
+
+unready_more : (ready : List (List ℕ)) (b : Bool) (t a : ℕ) → t < length ready → (xs : List Home) → found a xs ≡ None → Each (Unready ready) xs → Each (Unready (joined_ready b t a ready)) xs
+unready_more ready false t a within xs e l = l
+unready_more ready true t a within [] e l = tt
+unready_more ready true t a within (x ∷ xs) e l =
+    let other : (a == x.act) ≡ false = grind (arith, nat_tests, e) in
+    let rest : found a xs ≡ None = grind (arith, nat_tests, e) in
+    (by_tile other l.0 (cases_eq x.tile t), unready_more ready true t a within xs rest l.1)
+  where
+    by_tile : (a == x.act) ≡ false → Unready ready x → (x.tile ≡ t) ⊎ (x.tile ≡ t → ⊥) → Unready (set ready t (get_or ready t [] ++ a ∷ [])) x
+    by_tile other none (inl same) =
+        ap (λ u. list_any (λ b. b == x.act) (get_or (set ready t (get_or ready t [] ++ a ∷ [])) u [])) same
+        ∙ ap (list_any (λ b. b == x.act)) (get_or-set_same ready t (get_or ready t [] ++ a ∷ []) [] within)
+        ∙ any_more a x.act (get_or ready t []) (ap (λ u. list_any (λ b. b == x.act) (get_or ready u [])) (sym same) ∙ none) other
+    by_tile other none (inr ne) = ap (list_any (λ b. b == x.act)) (get_or-set_other ready t x.tile (get_or ready t [] ++ a ∷ []) [] ne) ∙ none
+
+joined_length : (ready : List (List ℕ)) (b : Bool) (t a : ℕ) → length (joined_ready b t a ready) ≡ length ready
+joined_length ready true t a = length-set ready t (get_or ready t [] ++ a ∷ [])
+joined_length ready false t a = refl
+
+-- who isn't in the list joins at its back
+joined_as : (b : Bool) (t a : ℕ) (k : Kernel) → list_any (λ c. c == a) (get_or k.ready t []) ≡ false → join_ready b t a k ≡ record k { ready = joined_ready b t a k.ready }
+joined_as true t a k none = ap (λ p. record k { ready = set k.ready t (cond p (get_or k.ready t []) (get_or k.ready t [] ++ a ∷ [])) }) none
+joined_as false t a k none = refl
+
 different : (a t : ℕ) → (a ≡ t → ⊥) → (a == t) ≡ false
 different a t n = by_test (a == t) refl
   where
@@ -82,14 +112,15 @@ pub record Progress (s : SetupValue) (first : List (Option Context)) (k : Kernel
   pub waits : Each (Waits s table) xs
   pub apart : DistinctHomes xs
   pub found : Each (Found (opened_site s).homes) xs
-  pub plain : NoPrograms xs
+  pub lists : length k.kernel.ready ≡ 16
+  pub unready : Each (Unready k.kernel.ready) xs
   pub fresh : Each (Fresh k.kernel) xs
   pub left : (a : ℕ) → get_or table a None ≡ left_for (entry_of a k.kernel) (get_or first a None)
   pub tiles : List Tile
   pub many : length tiles ≡ 16
   -- a tile has a current context exactly where somebody has a seat that is there
   pub there : (t : ℕ) → is_some (get_or tiles t (empty_tile t)).current ≡ is_taken k t
-  pub opens : with_entries (opening s.memory s.lines) (as_machine (opening s.memory s.lines) k.kernel tiles) xs ≡ opened_machine s.memory [] s.lines
+  pub opens : with_entries (opening s.memory s.lines) (as_machine (opening s.memory s.lines) k.kernel tiles) xs ≡ opened_machine s.memory (programmed_acts s.lines) s.lines
 
 residency_is : (o : Option Context) (c : Context) → opened_as (resting_with (is_some o) (Some c)) ≡ residency_at_opening o c
 residency_is None c = refl
@@ -121,8 +152,31 @@ module _ (s : SetupValue) (first : List (Option Context)) (k : KernelAt) (table 
   abbrev z : ActivityEntry
   z = new_seat x.act (resting_with rests (Some its))
 
+  abbrev joins : Bool
+  joins = rests && x.has_program
+
+  abbrev ready_now : List (List ℕ)
+  ready_now = joined_ready joins x.tile x.act k.kernel.ready
+
   abbrev next : KernelAt
-  next = record k { kernel = record k.kernel { seats = k.kernel.seats ++ z ∷ [] } }
+  next = record k { kernel = record k.kernel { seats = k.kernel.seats ++ z ∷ []; ready = ready_now } }
+
+  its_program : has_program k.site x.act ≡ x.has_program
+  its_program = ap (λ (h : Site). has_program h x.act) so.site ∙ ap home_has_program so.found.0
+
+  abbrev more : Kernel
+  more = record k.kernel { seats = k.kernel.seats ++ z ∷ [] }
+
+  next_is : with_new_seat x.act (resting_with rests (Some its)) k ≡ next
+  next_is =
+      ap (λ b. record k { kernel = join_ready (b && has_program k.site x.act) (tile_of k.site x.act) x.act more }) (rests_by rests)
+      ∙ ap (λ b. record k { kernel = join_ready (rests && b) (tile_of k.site x.act) x.act more }) its_program
+      ∙ ap (λ t. record k { kernel = join_ready joins t x.act more }) its_home
+      ∙ ap (λ q. record k { kernel = q }) (joined_as joins x.tile x.act more so.unready.0)
+    where
+      rests_by : (b : Bool) → is_some (resting_with b (Some its)) ≡ b
+      rests_by true = refl
+      rests_by false = refl
 
   abbrev tile_now : Tile
   tile_now = record there { current = first_there there.current its; stays = there.stays ++ new_stay x.act ∷ [] }
@@ -133,16 +187,12 @@ module _ (s : SetupValue) (first : List (Option Context)) (k : KernelAt) (table 
       λ i. record {
         kernel = record k.kernel {
           seats = k.kernel.seats ++ record { act = x.act; seating = sym (residency_is there.current its) i; hold = [] } ∷ [];
-          ready = ready_same rests x.has_program so.plain.0 i;
+          ready = ready_now;
         };
         memory = st.memory;
         tiles = set so.tiles x.tile tile_now;
         links = replicate 256 [];
       }
-    where
-      ready_same : (b p : Bool) → p ≡ false → joined_ready (b && p) x.tile x.act k.kernel.ready ≡ k.kernel.ready
-      ready_same true p e = ap (λ q. joined_ready q x.tile x.act k.kernel.ready) e
-      ready_same false p e = refl
 
   -- ---- what is left of the table
 
@@ -236,7 +286,8 @@ module _ (s : SetupValue) (first : List (Option Context)) (k : KernelAt) (table 
     waits = waits_now rests;
     apart = so.apart.1;
     found = so.found.1;
-    plain = so.plain.1;
+    lists = joined_length k.kernel.ready joins x.tile x.act ∙ so.lists;
+    unready = unready_more k.kernel.ready joins x.tile x.act (let e = so.lists in omega arith) xs so.apart.0 so.unready.1;
     fresh = fresh_more k.kernel z xs so.apart.0 so.fresh.1;
     left = left_now low;
     tiles = set so.tiles x.tile tile_now;
@@ -250,7 +301,7 @@ module _ (s : SetupValue) (first : List (Option Context)) (k : KernelAt) (table 
       → (table' : List (Option Context)) → table' ≡ left_where (is_taken k x.tile) x.act table → Progress s first k' table' xs
   progress_more low_tile k' seat table' left =
       let taken : is_taken k x.tile ≡ rests = sym (so.there x.tile) in
-      let kernel_is : k' ≡ next = seat ∙ (λ i. with_new_seat x.act (resting_with (taken i) (so.waits.0 i)) k) in
+      let kernel_is : k' ≡ next = seat ∙ (λ i. with_new_seat x.act (resting_with (taken i) (so.waits.0 i)) k) ∙ next_is in
       let table_is : table' ≡ left_where rests x.act table = left ∙ ap (λ b. left_where b x.act table) taken in
       subst (λ (q : KernelAt). Progress s first q table' xs) (sym kernel_is) (
       subst (λ (ts : List (Option Context)). Progress s first next ts xs) (sym table_is) (progress_next low_tile)
@@ -294,7 +345,8 @@ progress_begin s first o k site_is kernel_is =
       waits = each_waits s o.valid first o.contexts.same (opened_site s).homes all_found;
       apart = apart;
       found = all_found;
-      plain = no_programs s.memory s.lines;
+      lists = ap (λ (q : Kernel). length q.ready) kernel_opens;
+      unready = each_true (Unready k.kernel.ready) (λ x. ap (λ (q : Kernel). list_any (λ b. b == x.act) (get_or q.ready x.tile [])) kernel_opens ∙ ap (list_any (λ b. b == x.act)) (get_or_replicated 16 x.tile [])) (opened_site s).homes;
       fresh = each_true (Fresh k.kernel) (λ x. ap (λ (q : Kernel). entry_of x.act q) kernel_opens) (opened_site s).homes;
       left = λ a. ap (λ (q : Kernel). left_for (entry_of a q) (get_or first a None)) (sym kernel_opens);
       tiles = empty_tiles;

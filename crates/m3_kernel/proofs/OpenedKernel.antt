@@ -1,20 +1,22 @@
 -- A kernel as it opens, and a seat more.
-use Rattle.std.proofs.Common.{◌≡◌, ℕ, zero, suc, ◌<◌, Bool, true, false, cond, List, [], ◌∷◌, ◌++◌, length, get_or, set, replicate, Option, Some, None, refl, sym, ap, ◌∙◌, subst, arith, ⊎_elim}
-use Rattle.std.specs.Prelude.{◌==◌, ◌&&◌, ◌||◌, is_none, is_some}
+use Rattle.std.proofs.Common.{◌≡◌, ℕ, zero, suc, ◌<◌, Bool, true, false, List, [], ◌∷◌, ◌++◌, length, get_or, set, replicate, Option, Some, None, refl, sym, ap, ◌∙◌, subst, arith, ⊎_elim}
+use Rattle.std.specs.Prelude.{◌==◌, ◌&&◌, ◌||◌, is_some}
 use Rattle.std.specs.List.{list_any}
 use Rattle.std.proofs.lemmas.Bool.Decides.{nat_tests}
 use Rattle.std.proofs.lemmas.Bool.{cases_eq}
 use Rattle.std.proofs.lemmas.List.{map-append, get_or-set_same, get_or-set_other, length-set, length-map, get_or_default}
 use Rattle.m3_base.specs.declared.setup_line.SetupLine.{SetupLine}
-use Rattle.m3_base.specs.Lists.Keyed as keyed
 use Rattle.m3_base.specs.Ideal.Context.{Context}
-use Rattle.m3_base.specs.Ideal.State.{same_act, is_number}
-use Rattle.m3_model.specs.Config.Site.{Home, home_act, Site, tile_of, has_program, home_has_program}
+use Rattle.m3_base.specs.Ideal.State.{is_number}
+use Rattle.m3_model.specs.Config.Site.{Site, tile_of, has_program}
 use Rattle.m3_model.specs.Kernel.State.{ActivityEntry, Kernel}
-use Rattle.m3_model.specs.Config.FromSetup.{with_home, with_homes, site_of}
-use Rattle.m3_model.specs.Kernel.Step.{entry_of, is_placed_entry, is_leaving_entry, is_coming_entry, is_leaving_at}
+use Rattle.m3_model.specs.Config.FromSetup.{with_home, with_homes}
+use Rattle.m3_model.specs.Kernel.Step.{entry_of, join_ready, is_placed_entry, is_leaving_entry, is_coming_entry, is_leaving_at}
+use Rattle.m3_base.specs.Setup.Rules.{SetupValue, programmed_acts}
+use Rattle.m3_model.specs.SetupOpening.{opened_site}
+use Rattle.m3_sched.specs.SchedView.{Scheduler, with_ready_if}
 use Rattle.m3_kernel.specs.ActivityView.{seat_value, seats_of, new_seat, opened_as}
-use Rattle.m3_kernel.specs.LookupTables.{IsOnly, is_of, is_there_at, empty_berth, berth_at, yielded_of, AreTables}
+use Rattle.m3_kernel.specs.LookupTables.{IsOnly, is_of, is_there_at, empty_berth, berth_at, AreTables, IsHeldSet}
 use Rattle.m3_kernel.specs.KernelStateView.{KernelAt, kernel_in, at_site, IsKept}
 use Rattle.m3_kernel.specs.declared.seat.Seat.{Seat as CodeSeat}
 use Rattle.m3_kernel.specs.declared.berth.Berth.{Berth}
@@ -24,52 +26,22 @@ use Rattle.m3_kernel.proofs.TablesAfterChange.{berth_same, berth_other, leaving_
 use Rattle.m3_kernel.specs.StepContracts.{IsSeatOf}
 use Rattle.m3_kernel.specs.KernelOpening.{with_new_seat, is_taken, HasPlaceFor, resting_with}
 use Rattle.m3_kernel.proofs.FindEntry.{is_seat}
-use Rattle.m3_kernel.proofs.ReplaceEntry.{yielded_kept}
+use Rattle.m3_kernel.proofs.HeldSet.{held_more}
+use Rattle.m3_kernel.proofs.JoinReady.{join_is}
 
 -- ---- the site
 
-abbrev pub NoPrograms : List Home → Type 0
-NoPrograms [] = Unit {0}
-NoPrograms (x ∷ xs) = (x.has_program ≡ false) × NoPrograms xs
+line_memory : (ps : List ℕ) (h : Site) (l : SetupLine) → (with_home ps h l).memory ≡ h.memory
+line_memory ps h (SetupLine.Act a t) = refl
+line_memory ps h (SetupLine.Quantum q) = refl
+line_memory ps h l = refl
 
-more_homes : (xs : List Home) (x : Home) → x.has_program ≡ false → NoPrograms xs → NoPrograms (xs ++ x ∷ [])
-more_homes [] x e all = (e, tt)
-more_homes (z ∷ xs) x e all = (all.0, more_homes xs x e all.1)
+all_memory : (ps : List ℕ) (h : Site) (ls : List SetupLine) → (with_homes ps h ls).memory ≡ h.memory
+all_memory ps h [] = refl
+all_memory ps h (l ∷ ls) = all_memory ps (with_home ps h l) ls ∙ line_memory ps h l
 
-none_programmed : (xs : List Home) (a : ℕ) → NoPrograms xs → home_has_program (keyed.find home_act same_act a xs) ≡ false
-none_programmed [] a all = refl
-none_programmed (x ∷ xs) a all = by_test (same_act a x.act) (none_programmed xs a all.1)
-  where
-    by_test : (b : Bool) → home_has_program (keyed.find home_act same_act a xs) ≡ false → home_has_program (cond b (Some x) (keyed.find home_act same_act a xs)) ≡ false
-    by_test true rest = all.0
-    by_test false rest = rest
-
-line_homes : (h : Site) (l : SetupLine) → NoPrograms h.homes → NoPrograms (with_home [] h l).homes
-line_homes h (SetupLine.Act a t) all = more_homes h.homes (record { act = a; tile = t; has_program = false }) refl all
-line_homes h (SetupLine.Quantum q) all = all
-line_homes h l all = all
-
-all_homes : (h : Site) (ls : List SetupLine) → NoPrograms h.homes → NoPrograms (with_homes [] h ls).homes
-all_homes h [] all = all
-all_homes h (l ∷ ls) all = all_homes (with_home [] h l) ls (line_homes h l all)
-
-pub no_programs : (memory : ℕ) (ls : List SetupLine) → NoPrograms (site_of memory [] ls).homes
-no_programs memory ls = all_homes (record { homes = []; quantum = 8; memory = memory }) ls tt
-
-pub site_programs : (memory : ℕ) (ls : List SetupLine) (a : ℕ) → has_program (site_of memory [] ls) a ≡ false
-site_programs memory ls a = none_programmed (site_of memory [] ls).homes a (no_programs memory ls)
-
-line_memory : (h : Site) (l : SetupLine) → (with_home [] h l).memory ≡ h.memory
-line_memory h (SetupLine.Act a t) = refl
-line_memory h (SetupLine.Quantum q) = refl
-line_memory h l = refl
-
-all_memory : (h : Site) (ls : List SetupLine) → (with_homes [] h ls).memory ≡ h.memory
-all_memory h [] = refl
-all_memory h (l ∷ ls) = all_memory (with_home [] h l) ls ∙ line_memory h l
-
-pub site_memory : (memory : ℕ) (ls : List SetupLine) → (site_of memory [] ls).memory ≡ memory
-site_memory memory ls = all_memory (record { homes = []; quantum = 8; memory = memory }) ls
+pub site_memory : (s : SetupValue) → (opened_site s).memory ≡ s.memory
+site_memory s = all_memory (programmed_acts s.lines) (record { homes = []; quantum = 8; memory = s.memory }) s.lines
 
 -- ---- empty tables
 
@@ -212,22 +184,22 @@ module _ (s : State) (kept : IsKept s) (a : ℕ) (low : a < 64) (c : Option Cont
       subst (λ (ts : List (Option ℕ)). AreTables h (k.seats ++ new_seat a c ∷ []) ts berths) (sym index_is) t
       )
 
-  pub seat_rests : is_none c ≡ false → AreTables h (seats_of items) index_then s.berths.items
+  pub seat_rests : is_some c ≡ true → AreTables h (seats_of items) index_then s.berths.items
   seat_rests some = then_tables s.berths.items (
       tables_resting h k.seats s.index.items s.berths.items kept.tables (new_seat a c) low none_yet (rests_leaving c some) (rests_there c some)
       )
     where
-      rests_leaving : (o : Option Context) → is_none o ≡ false → is_leaving_entry (opened_as o) ≡ false
+      rests_leaving : (o : Option Context) → is_some o ≡ true → is_leaving_entry (opened_as o) ≡ false
       rests_leaving None e = absurd (cc)
       rests_leaving (Some x) e = refl
 
-      rests_there : (o : Option Context) → is_none o ≡ false → (is_placed_entry (opened_as o) || is_coming_entry (opened_as o)) ≡ false
+      rests_there : (o : Option Context) → is_some o ≡ true → (is_placed_entry (opened_as o) || is_coming_entry (opened_as o)) ≡ false
       rests_there None e = absurd (cc)
       rests_there (Some x) e = refl
 
   module _ (j : ℕ) (tile : j ≡ tile_of h a) (low_j : j < 16) (r : Berth) (was : r ≡ get_or s.berths.items j r) where
     abbrev first_berth : Berth
-    first_berth = record { leaving = r.leaving; there = Some n; yielded = r.yielded }
+    first_berth = record { leaving = r.leaving; there = Some n }
 
     low_here : j < length s.berths.items
     low_here = let e = kept.tables.tiles in omega arith
@@ -235,31 +207,48 @@ module _ (s : State) (kept : IsKept s) (a : ℕ) (low : a < 64) (c : Option Cont
     read : r ≡ berth_at s.berths.items j
     read = was ∙ get_or_default s.berths.items j r empty_berth low_here
 
-    pub seat_first : is_none c ≡ true → HasPlaceFor (at_site s) a c → AreTables h (seats_of items) index_then (set s.berths.items j first_berth)
+    pub seat_first : is_some c ≡ false → HasPlaceFor (at_site s) a c → AreTables h (seats_of items) index_then (set s.berths.items j first_berth)
     seat_first none place = then_tables (set s.berths.items j first_berth) (
         tables_first h k.seats s.index.items s.berths.items kept.tables (new_seat a c) low none_yet j (sym tile) low_j (nobody c none place) (first_leaving c none) (first_there c none) first_berth (ap (λ b. b.leaving) read) (ap (λ m. Some m) (count_is ∙ sym (length-map s.seats.items seat_value)))
         )
       where
-        nobody : (o : Option Context) → is_none o ≡ true → HasPlaceFor (at_site s) a o → list_any (is_there_at h j) k.seats ≡ false
+        nobody : (o : Option Context) → is_some o ≡ false → HasPlaceFor (at_site s) a o → list_any (is_there_at h j) k.seats ≡ false
         nobody None e p = ap (λ t. list_any (is_there_at h t) k.seats) tile ∙ p
         nobody (Some x) e p = absurd (cc)
 
-        first_leaving : (o : Option Context) → is_none o ≡ true → is_leaving_entry (opened_as o) ≡ false
+        first_leaving : (o : Option Context) → is_some o ≡ false → is_leaving_entry (opened_as o) ≡ false
         first_leaving None e = refl
         first_leaving (Some x) e = absurd (cc)
 
-        first_there : (o : Option Context) → is_none o ≡ true → (is_placed_entry (opened_as o) || is_coming_entry (opened_as o)) ≡ true
+        first_there : (o : Option Context) → is_some o ≡ false → (is_placed_entry (opened_as o) || is_coming_entry (opened_as o)) ≡ true
         first_there None e = refl
         first_there (Some x) e = absurd (cc)
 
-    first_yielded : yielded_of (set s.berths.items j first_berth) ≡ k.yielded
-    first_yielded = yielded_kept s.berths.items j r first_berth low_here was refl
+  pub seat_held : IsHeldSet (seats_of items) s.held
+  seat_held = subst (λ (xs : List ActivityEntry). IsHeldSet xs s.held) (sym seats_now) (held_more k.seats (new_seat a c) s.held refl kept.held)
 
-    abbrev opened_kernel : List ActivityEntry → List Bool → KernelAt
-    opened_kernel xs ys = record { site = h; kernel = record k { seats = xs; yielded = ys } }
+  -- ---- the kernel then
 
-    pub seat_opened : opened_kernel (seats_of items) (yielded_of (set s.berths.items j first_berth)) ≡ with_new_seat a c (at_site s)
-    seat_opened = ap (λ xs. opened_kernel xs (yielded_of (set s.berths.items j first_berth))) seats_now ∙ ap (opened_kernel (k.seats ++ new_seat a c ∷ [])) first_yielded
+  abbrev grown : Kernel
+  grown = record k { seats = k.seats ++ new_seat a c ∷ [] }
+
+  abbrev at_home : Kernel → KernelAt
+  at_home q = record { site = h; kernel = q }
+
+  pub seat_ready : is_some c ≡ true → (t : ℕ) → t ≡ tile_of h a → (joins : Bool) → joins ≡ has_program h a → (q : Scheduler) → q ≡ with_ready_if joins t a s.sched
+      → at_home (record k { seats = seats_of items; ready = q.ready; yielded = q.yielded }) ≡ with_new_seat a c (at_site s)
+  seat_ready some t tile joins program q joined =
+      ap (λ xs. at_home (record k { seats = xs; ready = q.ready; yielded = q.yielded })) seats_now
+      ∙ ap (λ (z : Scheduler). at_home (record grown { ready = z.ready; yielded = z.yielded })) joined
+      ∙ ap at_home (sym (join_is joins t a grown))
+      ∙ ap (λ b. at_home (join_ready b t a grown)) program
+      ∙ ap (λ u. at_home (join_ready (has_program h a) u a grown)) tile
+      ∙ ap (λ b. at_home (join_ready (b && has_program h a) (tile_of h a) a grown)) (sym some)
+
+  pub seat_opened : is_some c ≡ false → at_home (record k { seats = seats_of items }) ≡ with_new_seat a c (at_site s)
+  seat_opened none =
+      ap (λ xs. at_home (record k { seats = xs })) seats_now
+      ∙ ap (λ b. at_home (join_ready (b && has_program h a) (tile_of h a) a grown)) (sym none)
 
 -- ---- a place for it
 

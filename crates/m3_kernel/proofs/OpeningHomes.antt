@@ -1,34 +1,27 @@
 -- The homes of a setup: each activity has one, and a context at opening.
-use Rattle.std.proofs.Common.{◌≡◌, ℕ, ◌+◌, ◌<◌, Bool, true, false, List, [], ◌∷◌, ◌++◌, get_or, set, drop, map, replicate, length, Option, Some, None, refl, sym, ap, ◌∙◌, subst, arith}
-use Rattle.std.specs.Prelude.{◌==◌, ◌||◌, is_some}
+use Rattle.std.proofs.Common.{◌≡◌, ℕ, ◌+◌, ◌<◌, true, false, List, [], ◌∷◌, ◌++◌, get_or, set, drop, map, replicate, length, Option, Some, None, refl, sym, ap, ◌∙◌, subst, arith}
+use Rattle.std.specs.Prelude.{◌==◌, is_some}
 use Rattle.std.proofs.lemmas.Bool.Decides.{nat_tests}
-use Rattle.std.proofs.lemmas.List.{get_or-map, get_or-set_other, drop_more, length-map}
-use Rattle.m3_base.specs.declared.order.GrantLine.{GrantLine}
-use Rattle.m3_base.specs.declared.packet.Fresh.{Fresh}
+use Rattle.std.specs.List.{list_any}
+use Rattle.std.proofs.lemmas.List.{length-replicate, get_or-map, get_or-set_other, drop_more, length-map}
 use Rattle.m3_base.specs.declared.setup_line.SetupLine.{SetupLine}
-use Rattle.m3_base.specs.Lists.Keyed as keyed
 use Rattle.m3_base.specs.Lists.EachElement.{Each}
 use Rattle.m3_base.specs.Ideal.Context.{Context}
-use Rattle.m3_base.specs.Ideal.GrantRules.{form}
-use Rattle.m3_base.specs.Ideal.State.{State, same_act, context_of, parent_in, parent_of}
-use Rattle.m3_base.specs.Ideal.Opening.{opening, state_with_grant, with_line, with_lines}
-use Rattle.m3_base.specs.Setup.Rules.{Facts, SetupValue, IsValid, AllKept, InRange, breaks_rule, no_lines, facts_with_line, facts_with_lines, facts_of, home_at}
-use Rattle.m3_base.proofs.SetupObligations.{Ties, valid_ties}
-use Rattle.m3_model.specs.Config.Site.{Home, Site, home_act}
-use Rattle.m3_model.specs.Config.FromSetup.{with_home, with_homes, site_of}
+use Rattle.m3_base.specs.Ideal.State.{context_of}
+use Rattle.m3_base.specs.Ideal.Opening.{opening}
+use Rattle.m3_base.specs.Setup.Rules.{Facts, SetupValue, IsValid, AllKept, InRange, breaks_rule, no_lines, facts_with_line, facts_with_lines, facts_of, home_at, programmed_acts}
+use Rattle.m3_base.proofs.SetupObligations.{valid_ties}
+use Rattle.m3_model.specs.Config.Site.{Home, Site}
+use Rattle.m3_model.specs.Config.FromSetup.{with_home, with_homes}
 use Rattle.m3_model.specs.Invariant.Distinct.{DistinctHomes}
 use Rattle.m3_model.specs.Machine.{context_or_new}
 use Rattle.m3_kernel.specs.HomeTableView.{value_of, home_tile, AreTiles}
 use Rattle.m3_kernel.specs.declared.site.Home.{Home as CodeHome}
 use Rattle.m3_model.specs.SetupOpening.{opened_site}
 use Rattle.std.proofs.lemmas.Bool.{or_parts}
-use Rattle.m3_kernel.proofs.HomeTable.{found, found_other, tiles_with, is_none_of, none_declared}
+use Rattle.m3_kernel.proofs.HomeTable.{found, found_other, none_found, table_with, is_none_of, get_or_replicated}
 
 -- ---- one line
-
-no_home : (o : Option Home) → home_tile o ≡ None → o ≡ None
-no_home None e = refl
-no_home (Some x) e = absurd (cc)
 
 record AreHomes (h : Site) (f : Facts) : Type 0 where
   pub tiles : AreTiles h.homes f.homes
@@ -44,31 +37,36 @@ apart_more (y ∷ ys) x a e =
     let behind : found x.act ys ≡ None = grind (arith, nat_tests, e) in
     (unfound_more y.act ys x a.0 other, apart_more ys x a.1 behind)
 
-line_homes : (l : SetupLine) (f : Facts) (h : Site) → breaks_rule l f ≡ false → InRange l → AreHomes h f → AreHomes (with_home [] h l) (facts_with_line l f)
-line_homes (SetupLine.Act a t) f h keeps within are =
+line_homes : (ps : List ℕ) (l : SetupLine) (f : Facts) (h : Site) → breaks_rule l f ≡ false → InRange l → AreHomes h f → AreHomes (with_home ps h l) (facts_with_line l f)
+line_homes ps (SetupLine.Act a t) f h keeps within are =
     let none : home_at f.homes a ≡ None = is_none_of (home_at f.homes a) ((or_parts (is_some (home_at f.homes a)) _ keeps).0) in
-    let x : Home = record { act = a; tile = t; has_program = false } in
+    let x : Home = record { act = a; tile = t; has_program = list_any (λ b. b == a) ps } in
+    let fresh : found a h.homes ≡ None = none_found (found a h.homes) (sym (are.tiles.same a) ∙ none) in
     record {
-      tiles = tiles_with h.homes f.homes are.tiles x within none;
-      apart = apart_more h.homes x are.apart (no_home (found a h.homes) (sym (are.tiles.same a) ∙ none));
+      tiles = table_with home_tile h.homes f.homes are.tiles x within fresh;
+      apart = apart_more h.homes x are.apart fresh;
     }
-line_homes (SetupLine.Quantum q) f h keeps within are = record { tiles = are.tiles; apart = are.apart }
-line_homes (SetupLine.Grant line) f h keeps within are = record { tiles = are.tiles; apart = are.apart }
-line_homes (SetupLine.Files g) f h keeps within are = record { tiles = are.tiles; apart = are.apart }
-line_homes (SetupLine.Item a c) f h keeps within are = record { tiles = are.tiles; apart = are.apart }
-line_homes (SetupLine.AwaitItem a e) f h keeps within are = record { tiles = are.tiles; apart = are.apart }
-line_homes (SetupLine.Writer a m d e c r b) f h keeps within are = record { tiles = are.tiles; apart = are.apart }
-line_homes (SetupLine.Reader a m d c r fu) f h keeps within are = record { tiles = are.tiles; apart = are.apart }
-line_homes (SetupLine.Boxed a x fu) f h keeps within are = record { tiles = are.tiles; apart = are.apart }
+line_homes ps (SetupLine.Quantum q) f h keeps within are = record { tiles = are.tiles; apart = are.apart }
+line_homes ps (SetupLine.Grant line) f h keeps within are = record { tiles = are.tiles; apart = are.apart }
+line_homes ps (SetupLine.Files g) f h keeps within are = record { tiles = are.tiles; apart = are.apart }
+line_homes ps (SetupLine.Item a c) f h keeps within are = record { tiles = are.tiles; apart = are.apart }
+line_homes ps (SetupLine.AwaitItem a e) f h keeps within are = record { tiles = are.tiles; apart = are.apart }
+line_homes ps (SetupLine.Writer a m d e c r b) f h keeps within are = record { tiles = are.tiles; apart = are.apart }
+line_homes ps (SetupLine.Reader a m d c r fu) f h keeps within are = record { tiles = are.tiles; apart = are.apart }
+line_homes ps (SetupLine.Boxed a x fu) f h keeps within are = record { tiles = are.tiles; apart = are.apart }
 
 -- ---- the whole setup
 
-lines_homes : (ls : List SetupLine) (f : Facts) (h : Site) → AllKept ls f → AreHomes h f → AreHomes (with_homes [] h ls) (facts_with_lines ls f)
-lines_homes [] f h keeps are = are
-lines_homes (l ∷ ls) f h keeps are = lines_homes ls (facts_with_line l f) (with_home [] h l) keeps.1.1 (line_homes l f h keeps.0 keeps.1.0 are)
+lines_homes : (ps : List ℕ) (ls : List SetupLine) (f : Facts) (h : Site) → AllKept ls f → AreHomes h f → AreHomes (with_homes ps h ls) (facts_with_lines ls f)
+lines_homes ps [] f h keeps are = are
+lines_homes ps (l ∷ ls) f h keeps are = lines_homes ps ls (facts_with_line l f) (with_home ps h l) keeps.1.1 (line_homes ps l f h keeps.0 keeps.1.0 are)
+
+no_tiles : AreTiles [] (replicate 64 None)
+no_tiles = record { count = length-replicate {A = Option ℕ} 64 None; same = λ a. get_or_replicated 64 a None }
 
 all_homes : (s : SetupValue) → IsValid s → AreHomes (opened_site s) (facts_of s)
-all_homes s v = lines_homes s.lines (no_lines s.tiles s.memory) (record { homes = []; quantum = 8; memory = s.memory }) v.lines (record { tiles = none_declared [] (replicate 64 None) refl refl; apart = tt })
+all_homes s v =
+    lines_homes (programmed_acts s.lines) s.lines (no_lines s.tiles s.memory) (record { homes = []; quantum = 8; memory = s.memory }) v.lines (record { tiles = no_tiles; apart = tt })
 
 -- the table of homes that the setup's rules read is that of its site
 pub valid_tiles : (s : SetupValue) → IsValid s → AreTiles (opened_site s).homes (facts_of s).homes

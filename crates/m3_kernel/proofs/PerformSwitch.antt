@@ -11,7 +11,7 @@ use Rattle.m3_model.specs.Kernel.State.{SavedActivity, EntryResidency, Is_placed
 use Rattle.m3_model.specs.LocalStep.{local_result}
 use Rattle.m3_model.specs.Kernel.Step.{entry_of, with_entry, with_residency, leave_ready, is_moving_at, placed_at, switch, switch_entry, after_switch}
 use Rattle.m3_kernel.specs.ActivityView.{seat_value, seats_of, place_of, coming_from}
-use Rattle.m3_kernel.specs.LookupTables.{is_of, yielded_of, AreTables}
+use Rattle.m3_kernel.specs.LookupTables.{is_of, AreTables, IsHeldSet}
 use Rattle.m3_kernel.specs.KernelStateView.{kernel_in, IsKept}
 use Rattle.m3_kernel.specs.StepContracts.{IsSeatOf, IsLeaver, IsSwitch}
 use Rattle.m3_kernel.specs.declared.seat.Place.{Place}
@@ -19,10 +19,12 @@ use Rattle.m3_kernel.specs.declared.seat.Seat.{Seat as CodeSeat}
 use Rattle.m3_kernel.specs.declared.berth.Berth.{Berth}
 use Rattle.m3_kernel.specs.declared.state.State.{State}
 use Rattle.m3_kernel.specs.declared.state.switch.Switch.{Switch}
+use Rattle.m3_sched.specs.SchedView.{Scheduler, without_ready}
 use Rattle.m3_kernel.proofs.UniqueElement.{get_set, only_kept}
 use Rattle.m3_kernel.proofs.TableLookup.{seat_here, within_seats}
+use Rattle.m3_kernel.proofs.HeldSet.{held_same}
 use Rattle.m3_kernel.proofs.TablesAfterChange.{tables_swap}
-use Rattle.m3_kernel.proofs.ReplaceEntry.{none_out, own_place, with_seat_set, seats_set, yielded_kept}
+use Rattle.m3_kernel.proofs.ReplaceEntry.{own_place, with_seat_set, seats_set}
 
 -- the code's seat there is the seat there
 pub same_seat : (s : State) (at : ℕ) (seat : ActivityEntry) (x : CodeSeat) → slice_get (kernel_in s).seats at ≡ Some seat → x ≡ get_or s.seats.items at x → seat ≡ seat_value x
@@ -105,8 +107,8 @@ module _ (s : State) (kept : IsKept s) (t a : ℕ) (low : t < 16) (w : Switch) (
       ∙ with_seat_set (record k { seats = slice_set k.seats w.leaves left_b }) w.comes come_x
       (only_kept (is_of x.act) k.seats (Some w.comes) w.leaves b left_b ok.leaves.here (own_place h k.seats s.index.items s.berths.items kept.tables w.comes x ok.comes.here) refl)
 
-  pub kernel_then : leave_ready t x.act (with_residency (Is_coming y) x (with_residency Is_leaving b k)) ≡ record k { seats = swapped }
-  kernel_then = ap (leave_ready t x.act) seats_then ∙ ap (λ rs. record k { seats = swapped; ready = rs }) (none_out t x.act)
+  kernel_then : leave_ready t x.act (with_residency (Is_coming y) x (with_residency Is_leaving b k)) ≡ record k { seats = swapped; ready = (without_ready t x.act s.sched).ready }
+  kernel_then = ap (leave_ready t x.act) seats_then
 
   module _ (u v : CodeSeat) (l : CodeSeat) (c : CodeSeat) (was_l : l ≡ get_or s.seats.items w.leaves l) (u_is : seat_value u ≡ record (seat_value l) { seating = Is_leaving }) (was_c : c ≡ get_or (set s.seats.items w.leaves u) w.comes c) (v_is : seat_value v ≡ record (seat_value c) { seating = coming_from (seat_value c).seating }) where
     b_is : b ≡ seat_value l
@@ -132,30 +134,39 @@ module _ (s : State) (kept : IsKept s) (t a : ℕ) (low : t < 16) (w : Switch) (
     pub seats_now : seats_of (set (set s.seats.items w.leaves u) w.comes v) ≡ swapped
     seats_now = seats_set (set s.seats.items w.leaves u) w.comes v ∙ ap (slice_set (seats_of (set s.seats.items w.leaves u)) w.comes) v_come ∙ ap (λ xs. slice_set xs w.comes come_x) left_seats
 
-    module _ (i : ℕ) (tile : i ≡ t) (r : Berth) (was_r : r ≡ get_or s.berths.items i r) where
+    pub held_swapped : IsHeldSet (seats_of (set (set s.seats.items w.leaves u) w.comes v)) s.held
+    held_swapped =
+        subst (λ (xs : List ActivityEntry). IsHeldSet xs s.held) (sym seats_now) (
+        held_same (slice_set k.seats w.leaves left_b) w.comes x come_x apart refl s.held s.held (held_same k.seats w.leaves b left_b ok.leaves.here refl s.held s.held kept.held refl refl) refl refl
+        )
+
+    module _ (i : ℕ) (tile : i ≡ t) where
       abbrev pub berths_now : List Berth
-      berths_now = slice_set s.berths.items i (record { leaving = Some w.leaves; there = Some w.comes; yielded = r.yielded })
+      berths_now = slice_set s.berths.items i (record { leaving = Some w.leaves; there = Some w.comes })
 
       pub tables_now : AreTables h (seats_of (set (set s.seats.items w.leaves u) w.comes v)) s.index.items berths_now
       tables_now =
-          subst (λ (j : ℕ). AreTables h (seats_of (set (set s.seats.items w.leaves u) w.comes v)) s.index.items (slice_set s.berths.items j (record { leaving = Some w.leaves; there = Some w.comes; yielded = r.yielded }))) (sym tile) (
-          subst (λ (xs : List ActivityEntry). AreTables h xs s.index.items (slice_set s.berths.items t (record { leaving = Some w.leaves; there = Some w.comes; yielded = r.yielded }))) (sym seats_now) (
-          tables_swap h k.seats s.index.items s.berths.items kept.tables t low w.leaves w.comes b x left_b come_x ok.leaves.here ok.comes.here ok.leaves.placed y ok.resting ok.leaves.home ok.home ok.leaves.nobody ok.leaves.there refl refl refl refl (record { leaving = Some w.leaves; there = Some w.comes; yielded = r.yielded }) refl refl
+          subst (λ (j : ℕ). AreTables h (seats_of (set (set s.seats.items w.leaves u) w.comes v)) s.index.items (slice_set s.berths.items j (record { leaving = Some w.leaves; there = Some w.comes }))) (sym tile) (
+          subst (λ (xs : List ActivityEntry). AreTables h xs s.index.items (slice_set s.berths.items t (record { leaving = Some w.leaves; there = Some w.comes }))) (sym seats_now) (
+          tables_swap h k.seats s.index.items s.berths.items kept.tables t low w.leaves w.comes b x left_b come_x ok.leaves.here ok.comes.here ok.leaves.placed y ok.resting ok.leaves.home ok.home ok.leaves.nobody ok.leaves.there refl refl refl refl (record { leaving = Some w.leaves; there = Some w.comes }) refl refl
           )
           )
 
-      yielded_now : yielded_of berths_now ≡ k.yielded
-      yielded_now = yielded_kept s.berths.items i r (record { leaving = Some w.leaves; there = Some w.comes; yielded = r.yielded }) (let e = kept.tables.tiles in omega arith) was_r refl
+      module _ (q : Scheduler) (out : q ≡ without_ready t a s.sched) where
+        abbrev pub kernel_now : Kernel
+        kernel_now = record k { seats = seats_of (set (set s.seats.items w.leaves u) w.comes v); ready = q.ready; yielded = q.yielded }
 
-      abbrev pub kernel_now : Kernel
-      kernel_now = record k { seats = seats_of (set (set s.seats.items w.leaves u) w.comes v); yielded = yielded_of berths_now }
+        step_is : switch h k t (entry_of a k) ≡ local_result (Said.Save b.act) kernel_now ((t, Save b.act) ∷ [])
+        step_is =
+            step
+            ∙ ap (λ p. local_result (Said.Save b.act) p ((t, Save b.act) ∷ [])) (
+            kernel_then
+            ∙ ap (λ n. record k { seats = swapped; ready = (without_ready t n s.sched).ready }) ok.comes.act
+            ∙ ap (λ xs. record k { seats = xs; ready = (without_ready t a s.sched).ready }) (sym seats_now)
+            ∙ ap (λ (z : Scheduler). record k { seats = seats_of (set (set s.seats.items w.leaves u) w.comes v); ready = z.ready; yielded = z.yielded }) (sym out)
+            )
 
-      pub step_is : switch h k t (entry_of a k) ≡ local_result (Said.Save b.act) kernel_now ((t, Save b.act) ∷ [])
-      step_is =
-          step
-          ∙ ap (λ q. local_result (Said.Save b.act) q ((t, Save b.act) ∷ [])) (kernel_then ∙ ap (λ xs. record k { seats = xs }) (sym seats_now) ∙ ap (λ bs. record k { seats = seats_of (set (set s.seats.items w.leaves u) w.comes v); yielded = bs }) (sym yielded_now))
-
-      pub switch_orders : (n : ℕ) (q : CodeSeat) → q ≡ get_or s.seats.items w.leaves q → n ≡ (seat_value q).act → switch h k t (entry_of a k) ≡ local_result (Said.Save n) kernel_now ((t, Save n) ∷ [])
-      switch_orders n q was_q act =
-          let same : n ≡ b.act = act ∙ sym (ap (λ z. z.act) (same_seat s w.leaves b q ok.leaves.here was_q)) in
-          step_is ∙ ap (λ m. local_result (Said.Save m) kernel_now ((t, Save m) ∷ [])) (sym same)
+        pub switch_orders : (n : ℕ) (c : CodeSeat) → c ≡ get_or s.seats.items w.leaves c → n ≡ (seat_value c).act → switch h k t (entry_of a k) ≡ local_result (Said.Save n) kernel_now ((t, Save n) ∷ [])
+        switch_orders n c was_c act =
+            let same : n ≡ b.act = act ∙ sym (ap (λ z. z.act) (same_seat s w.leaves b c ok.leaves.here was_c)) in
+            step_is ∙ ap (λ m. local_result (Said.Save m) kernel_now ((t, Save m) ∷ [])) (sym same)

@@ -1,34 +1,17 @@
 -- The kernel after a change of its data.
-use Rattle.std.proofs.Common.{◌≡◌, ℕ, zero, suc, ◌<◌, true, false, List, [], length, get_or, set, replicate, Option, Some, None, refl, sym, ap, ◌∙◌, subst, arith}
-use Rattle.std.specs.Prelude.{slice_get, slice_set, ◌==◌, not, filter}
+use Rattle.std.proofs.Common.{◌≡◌, ℕ, true, List, get_or, set, Option, Some, None, sym, ap, ◌∙◌, subst, arith}
+use Rattle.std.specs.Prelude.{slice_get, slice_set}
 use Rattle.std.proofs.lemmas.Bool.Decides.{nat_tests}
-use Rattle.std.proofs.lemmas.List.{map-set, set-get_or, get_or-map}
+use Rattle.std.proofs.lemmas.List.{map-set}
 use Rattle.m3_model.specs.Config.Site.{Site}
 use Rattle.m3_model.specs.Kernel.State.{ActivityEntry, Kernel}
 use Rattle.m3_model.specs.Kernel.Step.{with_entry}
 use Rattle.m3_kernel.specs.ActivityView.{seat_value, seats_of}
-use Rattle.m3_kernel.specs.LookupTables.{test, IsOnly, is_of, yielded_in, yielded_of, AreTables}
+use Rattle.m3_kernel.specs.LookupTables.{test, IsOnly, is_of, AreTables}
 use Rattle.m3_kernel.specs.declared.seat.Seat.{Seat as CodeSeat}
 use Rattle.m3_kernel.specs.declared.berth.Berth.{Berth}
 use Rattle.m3_kernel.proofs.FindEntry.{replaced_set}
 use Rattle.m3_base.proofs.Options.{some_if_number}
-
-abbrev pub no_ready : List (List ℕ)
-no_ready = replicate 16 []
-
--- nobody is ready, so nobody is taken out
-pub none_out : (t a : ℕ) → set no_ready t (filter (λ b. not (b == a)) (get_or no_ready t [])) ≡ no_ready
-none_out t a =
-    let e : get_or no_ready t [] ≡ [] = none_at t in
-    ap (λ xs. set no_ready t (filter (λ b. not (b == a)) xs)) e ∙ ap (set no_ready t) (sym e) ∙ set-get_or no_ready t []
-  where
-    none_of : (n t : ℕ) → get_or {A = List ℕ} (replicate n []) t [] ≡ []
-    none_of zero t = refl
-    none_of (suc n) zero = refl
-    none_of (suc n) (suc t) = none_of n t
-
-    none_at : (t : ℕ) → get_or no_ready t [] ≡ []
-    none_at t = none_of 16 t
 
 -- the place of a seat is that of its activity
 pub own_place : (h : Site) (xs : List ActivityEntry) (index : List (Option ℕ)) (berths : List Berth) → AreTables h xs index berths → (at : ℕ) (x : ActivityEntry) → slice_get xs at ≡ Some x → IsOnly (is_of x.act) xs (Some at)
@@ -44,10 +27,3 @@ with_seat_set k at y only = ap (λ xs. record k { seats = xs }) (replaced_set y 
 
 pub seats_set : (items : List CodeSeat) (at : ℕ) (y : CodeSeat) → seats_of (set items at y) ≡ set (seats_of items) at (seat_value y)
 seats_set items at y = map-set seat_value items at y
-
--- a berth that has yielded as before
-pub yielded_kept : (berths : List Berth) (t : ℕ) (x b : Berth) → t < length berths → x ≡ get_or berths t x → b.yielded ≡ x.yielded → yielded_of (set berths t b) ≡ yielded_of berths
-yielded_kept berths t x b within is same =
-    map-set yielded_in berths t b
-    ∙ ap (set (yielded_of berths) t) (same ∙ ap yielded_in is ∙ sym (get_or-map yielded_in berths t x false within))
-    ∙ set-get_or (yielded_of berths) t false

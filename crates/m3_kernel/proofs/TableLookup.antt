@@ -137,6 +137,20 @@ module _ (s : State) (kept : IsKept s) (t : ℕ) where
       by_home true (Is_resting y) e = absurd (cc)
       by_home true (Is_coming y) e = refl
 
+  -- ---- whether a switch is under way
+
+  pub leaving_moving : is_some berth.leaving ≡ true → list_any (is_moving_at h t) k.seats ≡ true
+  leaving_moving e = by_leaving berth.leaving refl e
+    where
+      by_leaving : (o : Option ℕ) → berth.leaving ≡ o → is_some o ≡ true → list_any (is_moving_at h t) k.seats ≡ true
+      by_leaving None e f = absurd (cc)
+      by_leaving (Some i) e f =
+          let here = only_here (is_leaving_at h t) k.seats i (leaves_by (Some i) e) in
+          some_any (is_moving_at h t) k.seats i (ap (test (is_moving_at h t)) here.1.0 ∙ leaving_moves here.0 here.1.1)
+
+  pub nobody_moving : berth.leaving ≡ None → berth.there ≡ None → list_any (is_moving_at h t) k.seats ≡ false
+  nobody_moving e g = none_any (is_moving_at h t) k.seats (λ i. moving_by (slice_get k.seats i) (leaves_by None e i) (there_only None g i))
+
   pub leaver_leaving : is_some berth.leaving ≡ true → leaver_in h t k ≡ None
   leaver_leaving e = by_leaving berth.leaving refl e
     where
@@ -190,6 +204,26 @@ module _ (s : State) (kept : IsKept s) (t : ℕ) where
     is_due_here e d =
         let y = coming_by x.seating (length x.hold == 0) d in
         record { seat = x; away = y.0; here = here; comes = y.1; home = home_here; due = due_here e true d }
+
+    moving_here : (w : EntryResidency) (b : Bool) → (b && is_leaving_entry w) ≡ false → b ≡ true → (b && (is_leaving_entry w || is_coming_entry w)) ≡ is_coming_entry w
+    moving_here Is_placed true e f = refl
+    moving_here Is_leaving true e f = absurd (cc)
+    moving_here (Is_resting y) true e f = refl
+    moving_here (Is_coming y) true e f = refl
+    moving_here w false e f = absurd (cc)
+
+    its_moving : berth.leaving ≡ None → is_moving_at h t x ≡ is_coming_entry x.seating
+    its_moving e = moving_here x.seating (tile_of h x.act == t) (ap (test (is_leaving_at h t)) (sym here) ∙ leaves_by None e at) at_home
+
+    pub there_moving : berth.leaving ≡ None → (b : Bool) → is_coming_entry x.seating ≡ b → list_any (is_moving_at h t) k.seats ≡ b
+    there_moving e true c = some_any (is_moving_at h t) k.seats at (ap (test (is_moving_at h t)) here ∙ its_moving e ∙ c)
+    there_moving e false c = none_any (is_moving_at h t) k.seats (λ i. by_place i (i == at) refl)
+      where
+        by_place : (i : ℕ) (b : Bool) → (i == at) ≡ b → test (is_moving_at h t) (slice_get k.seats i) ≡ false
+        by_place i true d =
+            let n : i ≡ at = grind (arith, nat_tests, d) in
+            ap (λ j. test (is_moving_at h t) (slice_get k.seats j)) n ∙ ap (test (is_moving_at h t)) here ∙ its_moving e ∙ c
+        by_place i false d = moving_by (slice_get k.seats i) (leaves_by None e i) (only_beside (is_there_at h t) k.seats at i (there_only (Some at) g) d)
 
     -- ---- who leaves
 

@@ -1,7 +1,7 @@
 -- Yield and Saved, as the kernel takes them.
 use Rattle.std.proofs.Common.{◌≡◌, ℕ, ◌<◌, Bool, true, false, cond, List, [], length, get_or, set, Some, None, refl, sym, ap, ◌∙◌, subst, arith}
 use Rattle.std.specs.Prelude.{◌&&◌, ◌||◌, not}
-use Rattle.std.proofs.lemmas.List.{map-set, get_or_default}
+use Rattle.std.proofs.lemmas.List.{get_or_default}
 use Rattle.m3_base.specs.declared.event.Said.{Said}
 use Rattle.m3_base.specs.Ideal.Context.{Context}
 use Rattle.m3_model.specs.Config.Site.{Site, tile_of, has_program}
@@ -9,16 +9,18 @@ use Rattle.m3_model.specs.Kernel.State.{EntryResidency, Is_placed, Is_leaving, I
 use Rattle.m3_model.specs.LocalStep.{LocalResult, local_result, dropped_result}
 use Rattle.m3_model.specs.Kernel.Step.{entry_of, with_entry, with_yielded, with_residency, join_ready, is_placed_entry, is_leaving_entry, is_coming_entry, then_restore, take_yield, take_saved, residency_of_saved}
 use Rattle.m3_kernel.specs.ActivityView.{seat_value, seats_of, place_of}
-use Rattle.m3_kernel.specs.LookupTables.{empty_berth, berth_at, AreTables, yielded_in, yielded_of}
+use Rattle.m3_kernel.specs.LookupTables.{empty_berth, berth_at, AreTables}
 use Rattle.m3_kernel.specs.KernelStateView.{kernel_in, IsKept}
 use Rattle.m3_kernel.specs.StepContracts.{IsSeatOf, IsLeavingAt}
 use Rattle.m3_kernel.specs.declared.seat.Place.{Place}
 use Rattle.m3_kernel.specs.declared.seat.Seat.{Seat as CodeSeat}
 use Rattle.m3_kernel.specs.declared.berth.Berth.{Berth}
 use Rattle.m3_kernel.specs.declared.state.State.{State}
+use Rattle.m3_sched.specs.SchedView.{Scheduler, with_ready_if, with_yield}
+use Rattle.m3_kernel.proofs.JoinReady.{join_is}
 use Rattle.m3_kernel.proofs.PerformSwitch.{same_seat}
 use Rattle.m3_kernel.proofs.ChangeEntry.{kernel_now}
-use Rattle.m3_kernel.proofs.ReplaceEntry.{seats_set, yielded_kept}
+use Rattle.m3_kernel.proofs.ReplaceEntry.{seats_set}
 use Rattle.m3_kernel.proofs.TablesAfterChange.{tables_rest}
 use Rattle.m3_kernel.proofs.TableLookup.{within_seats, seat_here}
 
@@ -55,18 +57,10 @@ module _ (s : State) (kept : IsKept s) (a at : ℕ) (place : IsSeatOf (kernel_in
       ap (take_saved h k c w e) (place.found ∙ ap (λ z. Some z) is_it)
       ∙ ap (λ b. cond b (then_restore h (Said.Saved (seat_value x).act) (tile_of h (seat_value x).act) (join_ready (has_program h (seat_value x).act && (not w && not e)) (tile_of h (seat_value x).act) (seat_value x).act (with_residency (residency_of_saved c e) (seat_value x) k)) []) (dropped_result k)) (leaving_not (seat_value x).seating n)
 
-  module _ (i : ℕ) (tile : i ≡ tile_of h a) (low : i < 16) (r : Berth) (was_r : r ≡ get_or s.berths.items i r) where
-    low_i : i < length s.berths.items
-    low_i = let e = kept.tables.tiles in omega arith
-
-    read : r ≡ berth_at s.berths.items i
-    read = was_r ∙ get_or_default s.berths.items i r empty_berth low_i
-
-    abbrev yielded_berth : Berth
-    yielded_berth = record { leaving = r.leaving; there = r.there; yielded = true }
-
+  -- a Yield of its stay was taken
+  module _ (t : ℕ) (tile : t ≡ tile_of h a) (q : Scheduler) (yields : q ≡ with_yield t true s.sched) where
     abbrev pub yielded_kernel : Kernel
-    yielded_kernel = record k { yielded = yielded_of (set s.berths.items i yielded_berth) }
+    yielded_kernel = record k { ready = q.ready; yielded = q.yielded }
 
     pub yield_is : (place_of (seat_value x).seating ≡ Place.Resting → ⊥) → (place_of (seat_value x).seating ≡ Place.Coming → ⊥)
         → take_yield h k a (entry_of a k) ≡ local_result (Said.Yielded a) yielded_kernel []
@@ -74,28 +68,32 @@ module _ (s : State) (kept : IsKept s) (a at : ℕ) (place : IsSeatOf (kernel_in
         ap (take_yield h k a) (place.found ∙ ap (λ z. Some z) is_it)
         ∙ ap (λ b. cond b (local_result (Said.Yielded a) (with_yielded (tile_of h a) true k) []) (dropped_result k)) (at_tile (seat_value x).seating e f)
         ∙ ap (λ u. local_result (Said.Yielded a) (with_yielded u true k) []) (sym tile)
-        ∙ ap (λ ys. local_result (Said.Yielded a) (record k { yielded = ys }) []) (sym (map-set yielded_in s.berths.items i yielded_berth))
+        ∙ ap (λ (z : Scheduler). local_result (Said.Yielded a) (record k { ready = z.ready; yielded = z.yielded }) []) (sym yields)
 
-    -- who was Leaving rests
-    module _ (leaving : place.seat.seating ≡ Is_leaving) (y : CodeSeat) (c : Context) (e : Bool) (now : seat_value y ≡ record (seat_value x) { seating = residency_of_saved c e }) where
-      was_leaving : (seat_value x).seating ≡ Is_leaving
-      was_leaving = ap (λ z. z.seating) (sym is_it) ∙ leaving
+  -- who was Leaving rests
+  module _ (leaving : place.seat.seating ≡ Is_leaving) (y : CodeSeat) (c : Context) (e : Bool) (now : seat_value y ≡ record (seat_value x) { seating = residency_of_saved c e }) where
+    was_leaving : (seat_value x).seating ≡ Is_leaving
+    was_leaving = ap (λ z. z.seating) (sym is_it) ∙ leaving
 
-      within : at < length s.seats.items
-      within = within_seats s.seats.items at place.seat place.here
+    within : at < length s.seats.items
+    within = within_seats s.seats.items at place.seat place.here
+
+    abbrev items_now : List CodeSeat
+    items_now = set s.seats.items at y
+
+    module _ (i : ℕ) (tile : i ≡ tile_of h a) (low : i < 16) (r : Berth) (was_r : r ≡ get_or s.berths.items i r) where
+      low_i : i < length s.berths.items
+      low_i = let n = kept.tables.tiles in omega arith
+
+      read : r ≡ berth_at s.berths.items i
+      read = was_r ∙ get_or_default s.berths.items i r empty_berth low_i
 
       abbrev left_berth : Berth
-      left_berth = record { leaving = None; there = r.there; yielded = r.yielded }
+      left_berth = record { leaving = None; there = r.there }
 
-      abbrev items_now : List CodeSeat
-      items_now = set s.seats.items at y
-
-      abbrev berths_now : List Berth
-      berths_now = set s.berths.items i left_berth
-
-      pub rest_tables : AreTables h (seats_of items_now) s.index.items berths_now
+      pub rest_tables : AreTables h (seats_of items_now) s.index.items (set s.berths.items i left_berth)
       rest_tables =
-          subst (λ (xs : List ActivityEntry). AreTables h xs s.index.items berths_now) (sym (seats_set s.seats.items at y)) (
+          subst (λ (xs : List ActivityEntry). AreTables h xs s.index.items (set s.berths.items i left_berth)) (sym (seats_set s.seats.items at y)) (
           tables_rest h k.seats s.index.items s.berths.items kept.tables at (seat_value x) (seat_value y) (seat_here s.seats.items at x within was) (ap (λ z. z.act) now)
           i (ap (λ z. tile_of h z.act) (sym is_it) ∙ ap (tile_of h) place.act ∙ sym tile) low
           (ap is_leaving_entry was_leaving) (ap (λ z. is_leaving_entry z.seating) now)
@@ -103,26 +101,31 @@ module _ (s : State) (kept : IsKept s) (a at : ℕ) (place : IsSeatOf (kernel_in
           left_berth refl (ap (λ b. b.there) read)
           )
 
+    abbrev rests_now : ActivityEntry → ActivityEntry
+    rests_now z = record z { seating = residency_of_saved c e }
+
+    rested : with_residency (residency_of_saved c e) place.seat k ≡ record k { seats = seats_of items_now }
+    rested = ap (λ z. with_entry z k) (ap rests_now is_it ∙ sym now) ∙ kernel_now s kept at x y within was (ap (λ z. z.act) now)
+
+    -- whether it is ready then
+    abbrev pub joins_saved : Bool → Bool
+    joins_saved w = has_program h a && (not w && not e)
+
+    module _ (w : Bool) (t : ℕ) (tile : t ≡ tile_of h a) (q : Scheduler) (joins : q ≡ with_ready_if (joins_saved w) t a s.sched) where
       abbrev pub rested_kernel : Kernel
-      rested_kernel = record k { seats = seats_of items_now; yielded = yielded_of berths_now }
+      rested_kernel = record k { seats = seats_of items_now; ready = q.ready; yielded = q.yielded }
 
-      abbrev rests_now : ActivityEntry → ActivityEntry
-      rests_now z = record z { seating = residency_of_saved c e }
+      abbrev saved_then : ℕ → LocalResult Kernel
+      saved_then n = then_restore h (Said.Saved n) (tile_of h n) (join_ready (has_program h n && (not w && not e)) (tile_of h n) n (with_residency (residency_of_saved c e) place.seat k)) []
 
-      rested : with_residency (residency_of_saved c e) place.seat k ≡ rested_kernel
-      rested =
-          ap (λ z. with_entry z k) (ap rests_now is_it ∙ sym now)
-          ∙ kernel_now s kept at x y within was (ap (λ z. z.act) now)
-          ∙ ap (λ ys. record k { seats = seats_of items_now; yielded = ys }) (sym (yielded_kept s.berths.items i r left_berth low_i was_r refl))
-
-      abbrev saved_then : Bool → ℕ → LocalResult Kernel
-      saved_then w n = then_restore h (Said.Saved n) (tile_of h n) (join_ready (has_program h n && (not w && not e)) (tile_of h n) n (with_residency (residency_of_saved c e) place.seat k)) []
-
-      pub rest_is : (w : Bool) → take_saved h k c w e (entry_of a k) ≡ then_restore h (Said.Saved a) i rested_kernel []
-      rest_is w =
+      pub rest_is : take_saved h k c w e (entry_of a k) ≡ then_restore h (Said.Saved a) t rested_kernel []
+      rest_is =
           ap (take_saved h k c w e) place.found
-          ∙ ap (λ b. cond b (saved_then w place.seat.act) (dropped_result k)) (ap is_leaving_entry leaving)
-          ∙ ap (λ b. then_restore h (Said.Saved place.seat.act) (tile_of h place.seat.act) (join_ready (b && (not w && not e)) (tile_of h place.seat.act) place.seat.act (with_residency (residency_of_saved c e) place.seat k)) []) (kept.programs place.seat.act)
-          ∙ ap (λ q. then_restore h (Said.Saved place.seat.act) (tile_of h place.seat.act) q []) rested
-          ∙ ap (λ b. then_restore h (Said.Saved b) (tile_of h b) rested_kernel []) place.act
-          ∙ ap (λ u. then_restore h (Said.Saved a) u rested_kernel []) (sym tile)
+          ∙ ap (λ b. cond b (saved_then place.seat.act) (dropped_result k)) (ap is_leaving_entry leaving)
+          ∙ ap saved_then place.act
+          ∙ ap (λ p. then_restore h (Said.Saved a) (tile_of h a) (join_ready (joins_saved w) (tile_of h a) a p) []) rested
+          ∙ ap (λ u. then_restore h (Said.Saved a) u (join_ready (joins_saved w) u a (record k { seats = seats_of items_now })) []) (sym tile)
+          ∙ ap (λ p. then_restore h (Said.Saved a) t p []) (
+          join_is (joins_saved w) t a (record k { seats = seats_of items_now })
+          ∙ ap (λ (z : Scheduler). record k { seats = seats_of items_now; ready = z.ready; yielded = z.yielded }) (sym joins)
+          )

@@ -16,33 +16,32 @@ use Rattle.m3_model.specs.LocalStep.{LocalResult, idle_result}
 use Rattle.m3_model.specs.Kernel.Step.{entry_act, entry_of, entry_for, with_entry, join_ready, route, route_to, answer_routed, after_tend, tend_arrived, arrived_context, after_packet, tend_away, tend_front, tend_entry, tend_by, kernel_tend}
 use Rattle.m3_kernel.specs.ArrivalView.{arrival_of}
 use Rattle.m3_kernel.specs.ActivityView.{place_of, away_in, first_held, deliverable_at, with_saved, Delivered}
+use Rattle.m3_kernel.specs.ReadyJoin.{joins_at_tend}
 use Rattle.m3_kernel.specs.StepContracts.{NoBack}
 use Rattle.m3_kernel.specs.declared.came.Came.{Came}
 use Rattle.m3_kernel.specs.declared.seat.Place.{Place}
 use Rattle.m3_kernel.proofs.HeardAnswer.{IsAnswerTo, arrive_answers}
 
-none_on : (b c : Bool) → (b && (false && c)) ≡ false
-none_on true c = refl
-none_on false c = refl
-
 -- the seat with this, and the rest of its hold list
 abbrev pub met_seat : ActivityEntry → (SavedActivity → EntryResidency) → SavedActivity → List Packet → ActivityEntry
 met_seat x w y ps = record x { seating = w y; hold = ps }
 
-module _ (h : Site) (k : Kernel) (programs : (a : ℕ) → has_program h a ≡ false) (x : ActivityEntry) (p : Packet) (ps : List Packet) (y : SavedActivity) (w : SavedActivity → EntryResidency) (ready : Bool) where
-  abbrev then_kernel : Bool → Option Arrival → Kernel
-  then_kernel b r = join_ready b (tile_of h x.act) x.act (with_entry (met_seat x w (after_packet p (arrived_context y.context r) y) ps) k)
+-- the kernel with this seat, and it is ready where it is to be
+abbrev pub met_kernel : Site → Kernel → Bool → ActivityEntry → Kernel
+met_kernel h k b z = join_ready b (tile_of h z.act) z.act (with_entry z k)
 
-  off : (ready && (has_program h x.act && not y.ended)) ≡ false
-  off = ap (λ b. ready && (b && not y.ended)) (programs x.act) ∙ none_on ready (not y.ended)
+module _ (h : Site) (k : Kernel) (x : ActivityEntry) (p : Packet) (ps : List Packet) (y : SavedActivity) (w : SavedActivity → EntryResidency) (ready : Bool) where
+  abbrev is_ready : Bool
+  is_ready = ready && (has_program h x.act && not y.ended)
 
-  pub away_some : (r : Arrival) → arrive_fit y.context p ≡ Some r → tend_away h k x p ps y w ready ≡ after_tend h (tile_of h x.act) r.said r.freed k (answer_routed h (with_entry (met_seat x w (after_packet p r.context y) ps) k) r.answer)
-  away_some r e =
-      ap (λ o. tend_arrived h k (then_kernel (ready && (has_program h x.act && not y.ended)) o) x o) e
-      ∙ ap (λ b. after_tend h (tile_of h x.act) r.said r.freed k (answer_routed h (then_kernel b (Some r)) r.answer)) off
+  abbrev then_kernel : Option Arrival → Kernel
+  then_kernel r = met_kernel h k is_ready (met_seat x w (after_packet p (arrived_context y.context r) y) ps)
+
+  pub away_some : (r : Arrival) → arrive_fit y.context p ≡ Some r → tend_away h k x p ps y w ready ≡ after_tend h (tile_of h x.act) r.said r.freed k (answer_routed h (met_kernel h k is_ready (met_seat x w (after_packet p r.context y) ps)) r.answer)
+  away_some r e = ap (λ o. tend_arrived h k (then_kernel o) x o) e
 
   pub away_none : arrive_fit y.context p ≡ None → tend_away h k x p ps y w ready ≡ idle_result IdleWhy.EmptyHold k
-  away_none e = ap (λ o. tend_arrived h k (then_kernel (ready && (has_program h x.act && not y.ended)) o) x o) e
+  away_none e = ap (λ o. tend_arrived h k (then_kernel o) x o) e
 
 -- ---- by the seat
 
@@ -71,7 +70,7 @@ away_if (Is_resting y) e f = (y, refl)
 away_if (Is_coming y) e f = (y, refl)
 
 -- where it is away, the tend is of the front, as it sits
-module _ (h : Site) (k : Kernel) (programs : (a : ℕ) → has_program h a ≡ false) (x : ActivityEntry) where
+module _ (h : Site) (k : Kernel) (x : ActivityEntry) where
   fit_by : (c : Context) (p : Packet) (b : Bool) → fits c p ≡ b → arrive_fit c p ≡ cond b (arrive c p) None
   fit_by c p b e = ap (λ t. cond t (arrive c p) None) e
 
@@ -91,16 +90,17 @@ module _ (h : Site) (k : Kernel) (programs : (a : ℕ) → has_program h a ≡ f
             let e : None ≡ Some x = sym none ∙ ap (λ j. entry_of j k) n ∙ found in
             absurd (cc)
 
-    answer_none : (q : Packet) (a : ℕ) (z : ActivityEntry) → target q ≡ Some a → z.act ≡ x.act → entry_of a k ≡ None → route h q (with_entry z k) ≡ None
-    answer_none q a z e same none = ap (λ o. route_to h q (with_entry z k) (entry_for o (with_entry z k))) e ∙ ap (route_to h q (with_entry z k)) (still_none a z same none)
+    answer_none : (q : Packet) (a : ℕ) (b : Bool) (z : ActivityEntry) → target q ≡ Some a → z.act ≡ x.act → entry_of a k ≡ None → route h q (met_kernel h k b z) ≡ None
+    answer_none q a true z e same none = ap (λ o. route_to h q (met_kernel h k true z) (entry_for o (met_kernel h k true z))) e ∙ ap (route_to h q (met_kernel h k true z)) (still_none a z same none)
+    answer_none q a false z e same none = ap (λ o. route_to h q (with_entry z k) (entry_for o (with_entry z k))) e ∙ ap (route_to h q (with_entry z k)) (still_none a z same none)
 
     unanswered : (p : Packet) (ps : List Packet) (y : SavedActivity) (w : SavedActivity → EntryResidency) (ready : Bool) → NoBack k p → (o : Option Arrival) → arrive_fit y.context p ≡ o → ((r : Arrival) → o ≡ Some r → arrive y.context p ≡ Some r) → tend_away h k x p ps y w ready ≡ idle_result IdleWhy.EmptyHold k
-    unanswered p ps y w ready b None e arrives = away_none h k programs x p ps y w ready e
+    unanswered p ps y w ready b None e arrives = away_none h k x p ps y w ready e
     unanswered p ps y w ready b (Some r) e arrives =
         let to : IsAnswerTo (Some b.aim) r.answer = subst (λ (o : Option ℕ). IsAnswerTo o r.answer) b.answers (arrive_answers y.context p r (arrives r refl)) in
-        away_some h k programs x p ps y w ready r e
-        ∙ ap (λ o. after_tend h (tile_of h x.act) r.said r.freed k (answer_routed h (with_entry (met_seat x w (after_packet p r.context y) ps) k) o)) to.1.0
-        ∙ ap (after_tend h (tile_of h x.act) r.said r.freed k) (answer_none to.0 b.aim (met_seat x w (after_packet p r.context y) ps) to.1.1 refl b.found)
+        away_some h k x p ps y w ready r e
+        ∙ ap (λ o. after_tend h (tile_of h x.act) r.said r.freed k (answer_routed h (met_kernel h k (ready && (has_program h x.act && not y.ended)) (met_seat x w (after_packet p r.context y) ps)) o)) to.1.0
+        ∙ ap (after_tend h (tile_of h x.act) r.said r.freed k) (answer_none to.0 b.aim (ready && (has_program h x.act && not y.ended)) (met_seat x w (after_packet p r.context y) ps) to.1.1 refl b.found)
 
     arrives_if : (c : Context) (p : Packet) (r : Arrival) (b : Bool) → fits c p ≡ b → cond b (arrive c p) None ≡ Some r → arrive c p ≡ Some r
     arrives_if c p r true e f = f
@@ -130,18 +130,21 @@ module _ (h : Site) (k : Kernel) (programs : (a : ℕ) → has_program h a ≡ f
     abbrev now : EntryResidency → ActivityEntry
     now w = record x { seating = with_saved w (after_packet m.packet m.context m.away); hold = m.left }
 
-    abbrev then_step : ActivityEntry → LocalResult Kernel
-    then_step v = after_tend h (tile_of h x.act) came.said came.freed k (answer_routed h (with_entry v k) came.answer)
+    abbrev then_step : Bool → ActivityEntry → LocalResult Kernel
+    then_step b v = after_tend h (tile_of h x.act) came.said came.freed k (answer_routed h (met_kernel h k b v) came.answer)
 
-    by_seating : (w : EntryResidency) → away_in w ≡ Some m.away → tend_entry h k x w ≡ then_step (now w)
+    by_seating : (w : EntryResidency) → away_in w ≡ Some m.away → tend_entry h k x w ≡ then_step (joins_at_tend h x.act w) (now w)
     by_seating Is_placed e = absurd (cc)
     by_seating Is_leaving e = absurd (cc)
     by_seating (Is_resting y) e =
-        let f : y ≡ m.away = cc in
-        ap (λ v. tend_front h k x x.hold v Is_resting true) f ∙ ap (λ ps. tend_front h k x ps m.away Is_resting true) m.held ∙ away_some h k programs x m.packet m.left m.away Is_resting true (arrival_of came m.context) arrived
+        let f : m.away ≡ y = cc in
+        ap (λ ps. tend_front h k x ps y Is_resting true) m.held
+        ∙ ap (λ v. tend_front h k x (m.packet ∷ m.left) v Is_resting true) (sym f)
+        ∙ away_some h k x m.packet m.left m.away Is_resting true (arrival_of came m.context) arrived
+        ∙ ap (λ (v : SavedActivity). then_step (has_program h x.act && not v.ended) (now (Is_resting y))) f
     by_seating (Is_coming y) e =
         let f : y ≡ m.away = cc in
-        ap (λ v. tend_front h k x x.hold v Is_coming false) f ∙ ap (λ ps. tend_front h k x ps m.away Is_coming false) m.held ∙ away_some h k programs x m.packet m.left m.away Is_coming false (arrival_of came m.context) arrived
+        ap (λ v. tend_front h k x x.hold v Is_coming false) f ∙ ap (λ ps. tend_front h k x ps m.away Is_coming false) m.held ∙ away_some h k x m.packet m.left m.away Is_coming false (arrival_of came m.context) arrived
 
-    pub met_step : tend_entry h k x x.seating ≡ then_step z
-    met_step = by_seating x.seating m.was ∙ ap then_step (sym m.seat)
+    pub met_step : tend_entry h k x x.seating ≡ then_step (joins_at_tend h x.act x.seating) z
+    met_step = by_seating x.seating m.was ∙ ap (then_step (joins_at_tend h x.act x.seating)) (sym m.seat)

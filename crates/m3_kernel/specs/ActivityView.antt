@@ -1,5 +1,5 @@
 -- The code's seats.
-use Rattle.std.specs.Prelude.{◌≡◌, ℕ, ◌<◌, true, false, List, [], ◌∷◌, map, Option, Some, None, if◌then◌else◌}
+use Rattle.std.specs.Prelude.{◌≡◌, ℕ, ◌<◌, Bool, true, false, not, List, [], ◌∷◌, map, Option, Some, None, if◌then◌else◌}
 use Rattle.std.specs.VecDeque.{deque_len, deque_capacity}
 use Rattle.m3_base.specs.declared.packet.Packet.{Packet}
 use Rattle.m3_base.specs.Ideal.Context.{Context}
@@ -57,6 +57,11 @@ opened_as (Some c) = Is_resting (record { context = c; heard = []; ended = false
 
 abbrev pub new_seat : ℕ → Option Context → ActivityEntry
 new_seat a c = record { act = a; seating = opened_as c; hold = [] }
+
+-- it rests, and its program hasn't ended
+abbrev pub is_idle_rest : EntryResidency → Bool
+is_idle_rest (Is_resting y) = not y.ended
+is_idle_rest w = false
 
 -- who rested comes
 abbrev pub coming_from : EntryResidency → EntryResidency

@@ -1,14 +1,14 @@
 -- The kernel that a setup opens, and what its making takes from the table of the opening's contexts.
-use Rattle.std.specs.Prelude.{◌≡◌, ℕ, Bool, true, false, List, [], ◌∷◌, ◌++◌, length, replicate, slice_index_or, slice_set, Option, Some, None, if◌then◌else◌}
+use Rattle.std.specs.Prelude.{◌≡◌, ℕ, Bool, true, false, List, [], ◌∷◌, ◌++◌, length, replicate, slice_index_or, slice_set, Option, Some, None, is_some, ◌&&◌, if◌then◌else◌}
 use Rattle.std.specs.List.{list_any}
 use Rattle.m3_base.specs.Ideal.Context.{Context}
 use Rattle.m3_base.specs.Ideal.Opening.{opening}
 use Rattle.m3_base.specs.Ideal.State.{Grant}
 use Rattle.m3_base.specs.Setup.Rules.{SetupValue, IsValid}
-use Rattle.m3_model.specs.Config.Site.{Site, tile_of}
+use Rattle.m3_model.specs.Config.Site.{has_program, tile_of}
 use Rattle.m3_model.specs.ContextTable.{HasContexts}
 use Rattle.m3_model.specs.Kernel.State.{ActivityEntry, Kernel}
-use Rattle.m3_model.specs.Kernel.Step.{entry_of, is_placed_entry}
+use Rattle.m3_model.specs.Kernel.Step.{entry_of, is_placed_entry, join_ready}
 use Rattle.m3_model.specs.SetupOpening.{opened_by_setup, opened_site}
 use Rattle.m3_kernel.specs.ActivityView.{new_seat}
 use Rattle.m3_kernel.specs.LookupTables.{is_there_at}
@@ -47,8 +47,12 @@ pub record IsOpened (s : SetupValue) (old new : List (Option Context)) (k : Kern
 abbrev pub new_kernel : List Grant → Kernel
 new_kernel grants = record { seats = []; next = 1; grants = grants; ready = replicate 16 []; yielded = replicate 16 false }
 
+-- one that rests and has a program is ready
 abbrev pub with_new_seat : ℕ → Option Context → KernelAt → KernelAt
-with_new_seat a c k = record k { kernel = record k.kernel { seats = k.kernel.seats ++ new_seat a c ∷ [] } }
+with_new_seat a c k =
+    record k {
+      kernel = join_ready (is_some c && has_program k.site a) (tile_of k.site a) a (record k.kernel { seats = k.kernel.seats ++ new_seat a c ∷ [] });
+    }
 
 -- somebody is at the tile or comes to it
 abbrev pub is_taken : KernelAt → ℕ → Bool

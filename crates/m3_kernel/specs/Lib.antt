@@ -10,3 +10,4 @@ pub mod PendingAnswer
 pub mod KernelStateView
 pub mod OrderAnswers
 pub mod KernelOpening
+pub mod ReadyJoin

@@ -1,6 +1,7 @@
 -- The kernel's tables: where each activity's seat is, and for each tile who leaves and who is there or comes.
-use Rattle.std.specs.Prelude.{◌≡◌, ℕ, Bool, false, ◌&&◌, ◌||◌, ◌==◌, List, length, map, slice_get, slice_index_or, Option, Some, None}
+use Rattle.std.specs.Prelude.{◌≡◌, ℕ, Bool, false, ◌&&◌, ◌||◌, ◌==◌, List, [], length, slice_get, slice_index_or, Option, Some, None}
 use Rattle.m3_base.specs.Ideal.State.{same_act, is_number}
+use Rattle.m3_bit_set.specs.BitSet.{has_place}
 use Rattle.m3_model.specs.Config.Site.{Site, tile_of}
 use Rattle.m3_model.specs.Kernel.State.{ActivityEntry}
 use Rattle.m3_model.specs.Kernel.Step.{entry_act, is_placed_entry, is_coming_entry, is_leaving_at}
@@ -23,16 +24,14 @@ abbrev pub is_there_at : Site → ℕ → ActivityEntry → Bool
 is_there_at h t x = (tile_of h x.act == t) && (is_placed_entry x.seating || is_coming_entry x.seating)
 
 abbrev pub empty_berth : Berth
-empty_berth = record { leaving = None; there = None; yielded = false }
+empty_berth = record { leaving = None; there = None }
 
 abbrev pub berth_at : List Berth → ℕ → Berth
 berth_at berths t = slice_index_or berths t empty_berth
 
-abbrev pub yielded_in : Berth → Bool
-yielded_in b = b.yielded
-
-abbrev pub yielded_of : List Berth → List Bool
-yielded_of = map yielded_in
+-- nothing is held for an activity that isn't in this set
+abbrev pub IsHeldSet : List ActivityEntry → List ℕ → Type 0
+IsHeldSet seats held = (i : ℕ) (x : ActivityEntry) → slice_get seats i ≡ Some x → has_place held x.act ≡ false → x.hold ≡ []
 
 pub record AreTables (h : Site) (seats : List ActivityEntry) (index : List (Option ℕ)) (berths : List Berth) : Type 0 where
   pub acts : length index ≡ 64

@@ -1,10 +1,11 @@
 -- What orders and Closes come to, as the local steps have it.
-use Rattle.std.specs.Prelude.{◌≡◌, ◌<◌, true, [], Option, Some, None, Result, Ok, Err, is_none}
+use Rattle.std.specs.Prelude.{◌≡◌, ℕ, ◌<◌, true, [], Option, Some, None, Result, Ok, Err, is_none}
 use Rattle.m3_base.specs.declared.event.IdleWhy.{IdleWhy}
 use Rattle.m3_base.specs.declared.event.No.{No}
 use Rattle.m3_base.specs.declared.event.Said.{Said}
 use Rattle.m3_base.specs.declared.order.Order.{Order}
-use Rattle.m3_base.specs.Ideal.State.{holder}
+use Rattle.m3_base.specs.Placement.Order.{least_closing}
+use Rattle.m3_base.specs.Ideal.State.{Grant, grant_in, holder}
 use Rattle.m3_grants.specs.declared.refusal.GrantRefusal.{GrantRefusal}
 use Rattle.m3_grants.specs.GrantTree.{cause}
 use Rattle.m3_model.specs.Kernel.State.{Kernel}
@@ -26,6 +27,10 @@ HasNumber k = k.next < 4294967295
 abbrev pub HolderIsSeated : Kernel → Order → Type 0
 HolderIsSeated k (Order.Grant line) = is_seated (entry_of (holder line) k) ≡ true
 HolderIsSeated k o = Unit {0}
+
+-- each grant's holder has a seat
+abbrev pub HoldersAreSeated : Kernel → Type 0
+HoldersAreSeated k = (g : ℕ) (x : Grant) → grant_in k.grants g ≡ Some x → is_seated (entry_of (holder x.line) k) ≡ true
 
 -- a switch takes no memory
 abbrev pub MayTakeMemory : Order → Type 0
@@ -79,6 +84,11 @@ Orders (Err why) old new step = RefusesOrder why old new step
 
 abbrev pub is_sent : CloseSent → Kernel → LocalResult Kernel
 is_sent x new = local_result (Said.CloseSent x.grant x.id (is_none x.emit)) new (out_of x.emit)
+
+-- no Close exactly where no grant is due
+abbrev pub IsNoneDue : Option CloseSent → Kernel → Type 0
+IsNoneDue None k = least_closing k.grants 1 k.grants ≡ None
+IsNoneDue (Some x) k = least_closing k.grants 1 k.grants ≡ Some x.grant
 
 -- the Close of the grant that is due, or none, and the kernel after it are those of the local step
 abbrev pub Closes : Option CloseSent → Kernel → LocalResult Kernel → Type 0

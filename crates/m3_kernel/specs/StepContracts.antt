@@ -25,7 +25,7 @@ use Rattle.m3_kernel.specs.declared.order.OrderRefusal.{OrderRefusal}
 use Rattle.m3_kernel.specs.declared.state.State.{State}
 use Rattle.m3_kernel.specs.declared.state.orders.DueClose.{DueClose}
 use Rattle.m3_kernel.specs.declared.state.switch.Switch.{Switch}
-use Rattle.m3_kernel.specs.declared.state.tend.Back.{Back}
+use Rattle.m3_kernel.specs.declared.state.tend.AnswerTarget.{AnswerTarget}
 use Rattle.m3_kernel.specs.declared.done.Done.{Done}
 
 -- what is said, whose Restore goes out with it, and what goes out
@@ -161,22 +161,22 @@ pub record IsBack (k : Kernel) (p : Packet) (at : ℕ) : Type 0 where
   pub answers : answers_to p ≡ Some aim
   pub place : IsSeatOf k aim at
 
-abbrev pub BackIs : Kernel → Packet → Option Back → Type 0
+abbrev pub BackIs : Kernel → Packet → Option AnswerTarget → Type 0
 BackIs k p None = NoBack k p
-BackIs k p (Some Back.Nobody) = answers_to p ≡ None
-BackIs k p (Some (Back.To at)) = IsBack k p at
+BackIs k p (Some AnswerTarget.Nobody) = answers_to p ≡ None
+BackIs k p (Some (AnswerTarget.To at)) = IsBack k p at
 
 -- the seat that is to get the answer is there
-abbrev pub IsThere : Kernel → Back → Type 0
-IsThere k Back.Nobody = Unit {0}
-IsThere k (Back.To at) = at < length k.seats
+abbrev pub IsThere : Kernel → AnswerTarget → Type 0
+IsThere k AnswerTarget.Nobody = Unit {0}
+IsThere k (AnswerTarget.To at) = at < length k.seats
 
-abbrev pub CanAnswer : State → Back → Type 0
-CanAnswer s Back.Nobody = Unit {0}
-CanAnswer s (Back.To at) = CanRoute s at
+abbrev pub CanAnswer : State → AnswerTarget → Type 0
+CanAnswer s AnswerTarget.Nobody = Unit {0}
+CanAnswer s (AnswerTarget.To at) = CanRoute s at
 
 -- the seat's front fits, and its answer goes there
-pub record IsTending (k : Kernel) (a at : ℕ) (back : Back) (heard : Option Heard) : Type 0 where
+pub record IsTending (k : Kernel) (a at : ℕ) (back : AnswerTarget) (heard : Option Heard) : Type 0 where
   pub place : IsSeatOf k a at
   pub hears : RemembersAnswer place.seat heard
   pub back_is : BackIs k hears.packet (Some back)
@@ -188,9 +188,9 @@ pub record IsAnswer (k : Kernel) (answer : Option Packet) (at : ℕ) : Type 0 wh
   pub target_is : target packet ≡ Some aim
   pub place : IsSeatOf k aim at
 
-abbrev pub AnswersBy : Kernel → Back → Option Packet → Type 0
-AnswersBy k Back.Nobody answer = answer ≡ None
-AnswersBy k (Back.To at) answer = IsAnswer k answer at
+abbrev pub AnswersBy : Kernel → AnswerTarget → Option Packet → Type 0
+AnswersBy k AnswerTarget.Nobody answer = answer ≡ None
+AnswersBy k (AnswerTarget.To at) answer = IsAnswer k answer at
 
 -- what arose goes out, or into a hold list
 pub record SendsBack (h : Site) (k : Kernel) (answer : Option Packet) (freed : Option ℕ) (emit : Option Emit) (new : Kernel) : Type 0 where

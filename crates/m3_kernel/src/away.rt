@@ -83,8 +83,15 @@ impl Away {
         &self.context
     }
 
+    /// Whether its program has ended.
+    pub fn has_ended(&self) -> bool
+        ensures { result ≡ self.now.ended }
+    {
+        self.ended
+    }
+
     /// A packet that fits arrives at its context, and it hears what its program is to hear of it.
-    pub fn meet(&mut self, heard: Option<Heard>, packet: Packet) -> Came
+    pub fn deliver(&mut self, heard: Option<Heard>, packet: Packet) -> Came
         requires fits { fits self.old.context packet ≡ true }
         requires heard { heard_in heard ≡ heard_in_answer packet }
         ensures arrives { arrive self.old.context packet ≡ Some (arrival_of result self.new.context) }

@@ -2,10 +2,12 @@
 //! and routes packets.
 
 ghost use Rattle.std.specs.Prelude.{◌≡◌, Some, true, IfOk, IfErr, OnErr, Err, option_copied, option_map, length, slice_get};
+ghost use Rattle.m3_base.specs.declared.event.Event.{Event};
 ghost use Rattle.m3_kernel.specs.ParcelView.{parcel_of};
+ghost use Rattle.m3_model.specs.Kernel.Driver.{least_tend, next_switch};
 ghost use Rattle.m3_model.specs.Kernel.Step.{entry_of, kernel_take, kernel_tend, kernel_order, kernel_close};
 ghost use Rattle.m3_kernel.specs.ActivityView.{seats_of, place_of};
-ghost use Rattle.m3_kernel.specs.OrderAnswers.{HasNumber, HolderIsSeated, MayTakeMemory, Orders, Closes};
+ghost use Rattle.m3_kernel.specs.OrderAnswers.{HasNumber, HolderIsSeated, HoldersAreSeated, IsNoneDue, MayTakeMemory, Orders, Closes};
 ghost use Rattle.m3_kernel.specs.StepContracts.{Does};
 ghost use Rattle.m3_kernel.specs.declared.order.OrderRefusal.{OrderRefusal};
 ghost use Rattle.m3_model.specs.SetupOpening.{opened_site};
@@ -13,6 +15,7 @@ ghost use Rattle.m3_kernel.specs.KernelOpening.{opened_kernel, CanOpen, AreLeft}
 ghost use Rattle.m3_kernel.specs.KernelQueries.{hold_in, context_of_seat, is_seated, SeatIs};
 
 use crate::done::Done;
+use crate::driver::least_tend;
 use crate::order::{CloseSent, OrderRefusal, Ordered};
 use crate::seat::{Place, Seat};
 use crate::site::Site;
@@ -27,7 +30,7 @@ use m3_grants::grants::Grants;
 use std::alloc::{AllocError, Global};
 use std::marker::Model;
 
-/// The kernel of a machine. Contracts see it as a kernel at its site. None of its activities has a program.
+/// The kernel of a machine. Contracts see it as a kernel at its site.
 #[derive(Drop)]
 pub struct Kernel {
     state: State,
@@ -179,14 +182,32 @@ impl Kernel {
         self.state.order(order)
     }
 
-    /// The Close of the grant that is due goes to its holder, or is held where the holder is away. None where no grant is
-    /// due. Out of memory, it changes nothing.
+    /// The Close of the grant that is due goes to its holder, or is held where the holder is away. None exactly where no
+    /// grant is due: each grant's holder has a seat, for a setup's grants and by the condition of `order`. Out of memory,
+    /// it changes nothing.
     pub fn close(&mut self) -> Result<Option<CloseSent>, AllocError>
         requires { HasNumber self.old.kernel }
         ensures site { self.new.site ≡ self.old.site }
         ensures ok { IfOk result (λ r. Closes r self.new.kernel (kernel_close self.old.site self.old.kernel)) }
+        ensures due { HoldersAreSeated self.old.kernel → IfOk result (λ r. IsNoneDue r self.old.kernel) }
         ensures err { OnErr result (self.new ≡ self.old) }
     {
         self.state.close()
+    }
+
+    /// The activity with the least number among those that are Resting or Coming and for which something is held.
+    pub fn least_tend(&self) -> Option<ActId>
+        ensures { result ≡ least_tend self.now.kernel.seats }
+    {
+        least_tend(&self.state)
+    }
+
+    /// The switch of the least tile that wants one, to the front of its ready list; None exactly where no tile wants a
+    /// switch. A tile wants one where no switch is under way there, a Yield of its Placed activity was taken in this stay,
+    /// and somebody is ready.
+    pub fn wanted(&self) -> Option<Order>
+        ensures { option_map Event.Order result ≡ next_switch self.now.site self.now.kernel }
+    {
+        self.state.wanted()
     }
 }

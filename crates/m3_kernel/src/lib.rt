@@ -5,6 +5,7 @@ pub mod away;
 pub mod berth;
 pub mod came;
 pub mod done;
+mod driver;
 pub mod kernel;
 pub mod order;
 pub mod seat;

@@ -6,7 +6,7 @@ ghost use Rattle.m3_model.specs.Parcel.{Restore};
 ghost use Rattle.m3_kernel.specs.ParcelView.{parcel_of};
 ghost use Rattle.m3_model.specs.Kernel.Step.{is_coming_entry, residency_of_saved};
 ghost use Rattle.m3_kernel.specs.ArrivalView.{AtMostOne};
-ghost use Rattle.m3_kernel.specs.ActivityView.{seat_value, new_seat, place_of, away_in, context_in, coming_from, deliverable_front, HasRoom, RemembersAnswer, Delivered, IsComing, Restores};
+ghost use Rattle.m3_kernel.specs.ActivityView.{seat_value, new_seat, place_of, away_in, context_in, coming_from, deliverable_front, is_idle_rest, HasRoom, RemembersAnswer, Delivered, IsComing, Restores};
 
 use crate::away::Away;
 use crate::came::Came;
@@ -111,6 +111,13 @@ impl Seat {
         &self.hold
     }
 
+    /// Whether nothing is held for its activity.
+    pub fn holds_nothing(&self) -> bool
+        ensures { result ≡ (length (seat_value self.now).hold == 0) }
+    {
+        self.hold.is_empty()
+    }
+
     /// Whether its activity is Coming, and nothing is held.
     pub fn is_due(&self) -> bool
         ensures { result ≡ (is_coming_entry (seat_value self.now).seating && (length (seat_value self.now).hold == 0)) }
@@ -121,8 +128,18 @@ impl Seat {
         }
     }
 
+    /// Whether its activity is Resting, and its program, if it has one, hasn't ended.
+    pub fn is_idle_rest(&self) -> bool
+        ensures { result ≡ is_idle_rest (seat_value self.now).seating }
+    {
+        match &self.seating {
+            Seating::Resting(away) => !away.has_ended(),
+            _ => false,
+        }
+    }
+
     /// The oldest packet that is held, where its activity is away and the packet fits its context.
-    pub fn fitting(&self) -> Option<&Packet>
+    pub fn deliverable_front(&self) -> Option<&Packet>
         ensures { option_copied result ≡ deliverable_front (seat_value self.now) }
     {
         let away = self.away()?;
@@ -135,7 +152,7 @@ impl Seat {
     }
 
     /// Its activity, which was Placed, is Leaving.
-    pub fn leave(&mut self)
+    pub fn start_save(&mut self)
         ensures { seat_value self.new ≡ record (seat_value self.old) { seating = Is_leaving } }
     {
         self.seating = Seating::Leaving;
@@ -149,7 +166,7 @@ impl Seat {
     }
 
     /// Its activity, which was Resting, is Coming.
-    pub fn come(&mut self)
+    pub fn start_restore(&mut self)
         ensures { seat_value self.new ≡ record (seat_value self.old) { seating = coming_from (seat_value self.old).seating } }
     {
         match mem::replace(&mut self.seating, Seating::Placed) {
@@ -179,7 +196,7 @@ impl Seat {
     }
 
     /// The packet joins the back of the hold list, which has room for it.
-    pub fn keep(&mut self, packet: Packet)
+    pub fn hold_packet(&mut self, packet: Packet)
         requires { HasRoom self.old }
         ensures { seat_value self.new ≡ record (seat_value self.old) { hold = (seat_value self.old).hold ++ packet ∷ [] } }
     {
@@ -188,7 +205,7 @@ impl Seat {
 
     /// The oldest packet that is held, which fits, arrives at the context, and the activity hears what is to be heard of
     /// it. There is room for one more packet then.
-    pub fn meet(&mut self, heard: Option<Heard>) -> Came
+    pub fn deliver(&mut self, heard: Option<Heard>) -> Came
         requires { RemembersAnswer (seat_value self.old) heard }
         ensures met { Delivered (seat_value self.old) (seat_value self.new) result }
         ensures one { AtMostOne result.answer result.freed }
@@ -197,8 +214,8 @@ impl Seat {
         match self.hold.pop_front() {
             None => unreachable!(),
             Some(packet) => match &mut self.seating {
-                Seating::Resting(away) => away.meet(heard, packet),
-                Seating::Coming(away) => away.meet(heard, packet),
+                Seating::Resting(away) => away.deliver(heard, packet),
+                Seating::Coming(away) => away.deliver(heard, packet),
                 _ => unreachable!(),
             },
         }

@@ -1,16 +1,20 @@
-//! What the setup says of activities, and no step changes: where each has its home.
+//! What the setup says of activities, and no step changes: where each has its home, and which have a program.
 
-ghost use Rattle.std.specs.Prelude.{◌≡◌, IfOk, OnOk, map, replicate, None, []};
+ghost use Rattle.std.specs.Prelude.{◌≡◌, ◌==◌, ◌++◌, ◌∷◌, List, IfOk, OnOk, length, map, replicate, None, false, []};
+ghost use Rattle.std.specs.List.{list_any};
 ghost use Rattle.m3_base.specs.declared.setup_line.SetupLine.{SetupLine};
 ghost use Rattle.m3_base.specs.Placement.Routing.{target};
-ghost use Rattle.m3_model.specs.Config.Site.{home_of, tile_of, tile_for};
+ghost use Rattle.m3_base.specs.Setup.Rules.{programmed_acts};
+ghost use Rattle.m3_model.specs.Config.Site.{Home as HomeValue, home_of, has_program, is_shared, tile_of, tile_for};
 ghost use Rattle.m3_model.specs.Config.KnownActivities.{is_home, are_homes, acts_in_form, is_named};
-ghost use Rattle.m3_model.specs.Config.FromSetup.{with_home, site_of};
-ghost use Rattle.m3_kernel.specs.HomeTableView.{home_tile, site_before, value_of};
+ghost use Rattle.m3_model.specs.Config.FromSetup.{with_home};
+ghost use Rattle.m3_model.specs.SetupOpening.{opened_site};
+ghost use Rattle.m3_kernel.specs.HomeTableView.{home_tile, home_with, site_before, value_of, with_declared, AreCrowds, ArePrograms, AreTiles, Grows};
 
 use m3_base::ids::{ActId, TileId};
 use m3_base::packet::{Fresh, Packet};
-use m3_base::setup_line::SetupLine;
+use m3_base::setup::Setup;
+use m3_base::setup_line::{ProgramKind, SetupLine};
 use std::alloc::{AllocError, Global};
 use std::marker::Model;
 
@@ -28,6 +32,10 @@ pub struct Site {
     homes: Vec<Home>,
     /// The home tile of each activity, by its number.
     tiles: Vec<Option<TileId>>,
+    /// Whether the activity has a program, by its number.
+    programs: Vec<bool>,
+    /// How many activities are at home on each tile, by its number: none, one, or 2 for more.
+    crowds: Vec<u8>,
     quantum: u8,
     memory: u32,
 }
@@ -46,18 +54,25 @@ impl Home {
     {
         self.tile
     }
+
+    /// Whether it has a program.
+    pub fn has_program(&self) -> bool
+        ensures { result ≡ self.now.has_program }
+    {
+        self.has_program
+    }
 }
 
 impl Model for Site {
     ghost use Rattle.std.specs.Prelude.{map};
     ghost use Rattle.m3_model.specs.Config.Site.{Site as SiteValue};
-    ghost use Rattle.m3_kernel.specs.HomeTableView.{value_of, AreTiles};
+    ghost use Rattle.m3_kernel.specs.HomeTableView.{value_of, AreHomeTables};
 
     ghost Value = { SiteValue };
 
     ghost view = { λ s. record { homes = map value_of s.homes.items; quantum = s.quantum; memory = s.memory } };
 
-    ghost invariant = { λ s. AreTiles (map value_of s.homes.items) s.tiles.items };
+    ghost invariant = { λ s. AreHomeTables (map value_of s.homes.items) s.tiles.items s.programs.items s.crowds.items };
 }
 
 fn no_tiles(alloc: Global) -> Result<Vec<Option<TileId>>, AllocError>
@@ -70,42 +85,106 @@ fn no_tiles(alloc: Global) -> Result<Vec<Option<TileId>>, AllocError>
     Ok(tiles)
 }
 
+fn no_programs(alloc: Global) -> Result<Vec<bool>, AllocError>
+    ensures { IfOk result (λ v. v.items ≡ replicate 64 false) }
+{
+    let mut programs = Vec::new(alloc);
+    for _ in 0..64u8 {
+        programs.push(false)?;
+    }
+    Ok(programs)
+}
+
+fn no_crowds(alloc: Global) -> Result<Vec<u8>, AllocError>
+    ensures { IfOk result (λ v. v.items ≡ replicate 16 0) }
+{
+    let mut crowds = Vec::new(alloc);
+    for _ in 0..16u8 {
+        crowds.push(0)?;
+    }
+    Ok(crowds)
+}
+
+/// The tables by activities get the home of one more; the first of an activity stands.
+fn record(
+    tiles: &mut Vec<Option<TileId>>,
+    programs: &mut Vec<bool>,
+    act: ActId,
+    tile: TileId,
+    has_program: bool,
+)
+    requires tiles { length tiles.old.items ≡ 64 }
+    requires programs { length programs.old.items ≡ 64 }
+    ensures tiles { Grows AreTiles (home_with act tile has_program) tiles.old.items tiles.new.items }
+    ensures programs { (homes : List HomeValue) → AreTiles homes tiles.old.items → ArePrograms homes programs.old.items →
+        ArePrograms (homes ++ home_with act tile has_program ∷ []) programs.new.items }
+{
+    let at = usize::from(act.number());
+    if tiles[at].is_none() {
+        tiles[at] = Some(tile);
+        programs[at] = has_program;
+    }
+}
+
+/// One more activity is at home on the tile.
+fn count(crowds: &mut Vec<u8>, tile: TileId)
+    requires { length crowds.old.items ≡ 16 }
+    ensures { (x : HomeValue) → x.tile ≡ tile → Grows AreCrowds x crowds.old.items crowds.new.items }
+{
+    let at = usize::from(tile.number());
+    if crowds[at] < 2 {
+        crowds[at] += 1;
+    }
+}
+
+/// Whether a setup gives the activity a program.
+fn is_programmed(setup: &Setup, act: ActId) -> bool
+    ensures { result ≡ list_any (λ b. b == act) (programmed_acts setup.now.lines) }
+{
+    match setup.program(act) {
+        ProgramKind::Absent => false,
+        _ => true,
+    }
+}
+
 impl Site {
     /// The site of a setup without lines.
     fn start(alloc: Global, memory: u32) -> Result<Site, AllocError>
         ensures { IfOk result (λ s. s ≡ site_before memory) }
     {
         let tiles = no_tiles(alloc)?;
+        let programs = no_programs(alloc)?;
+        let crowds = no_crowds(alloc)?;
         Ok(Site {
             homes: Vec::new(alloc),
             tiles,
+            programs,
+            crowds,
             quantum: 8,
             memory,
         })
     }
 
-    /// An activity is declared, without a program.
-    fn declare(&mut self, act: ActId, tile: TileId) -> Result<(), AllocError>
-        ensures { OnOk result (self.new ≡ with_home [] self.old (SetupLine.Act act tile)) }
+    /// An activity is declared.
+    fn declare(&mut self, act: ActId, tile: TileId, has_program: bool) -> Result<(), AllocError>
+        ensures { OnOk result (self.new ≡ with_declared (home_with act tile has_program) self.old) }
     {
         self.homes.push(Home {
             act,
             tile,
-            has_program: false,
+            has_program,
         })?;
-        let at = usize::from(act.number());
-        if self.tiles[at].is_none() {
-            self.tiles[at] = Some(tile);
-        }
+        record(&mut self.tiles, &mut self.programs, act, tile, has_program);
+        count(&mut self.crowds, tile);
         Ok(())
     }
 
     /// A line of the setup.
-    fn read(&mut self, line: &SetupLine) -> Result<(), AllocError>
-        ensures { OnOk result (self.new ≡ with_home [] self.old line.now) }
+    fn read(&mut self, setup: &Setup, line: &SetupLine) -> Result<(), AllocError>
+        ensures { OnOk result (self.new ≡ with_home (programmed_acts setup.now.lines) self.old line.now) }
     {
         match line {
-            SetupLine::Act { act, tile } => self.declare(*act, *tile),
+            SetupLine::Act { act, tile } => self.declare(*act, *tile, is_programmed(setup, *act)),
             SetupLine::Quantum(quantum) => {
                 self.quantum = *quantum;
                 Ok(())
@@ -114,13 +193,13 @@ impl Site {
         }
     }
 
-    /// The site of a setup with this size of memory and these lines, whose activities have no program.
-    pub fn new(alloc: Global, memory: u32, lines: &[SetupLine]) -> Result<Site, AllocError>
-        ensures { IfOk result (λ s. s ≡ site_of memory [] lines.now) }
+    /// The site of a setup.
+    pub fn new(alloc: Global, setup: &Setup) -> Result<Site, AllocError>
+        ensures { IfOk result (λ s. s ≡ opened_site setup.now) }
     {
-        let mut site = Site::start(alloc, memory)?;
-        for line in lines {
-            site.read(line)?;
+        let mut site = Site::start(alloc, setup.memory())?;
+        for line in setup.lines() {
+            site.read(setup, line)?;
         }
         Ok(site)
     }
@@ -148,6 +227,33 @@ impl Site {
         match self.tiles.get(usize::from(issuer)) {
             Some(Some(tile)) => *tile,
             _ => TileId::new(0),
+        }
+    }
+
+    /// How many Do moves a stay of a program makes on a tile that it shares, before it yields.
+    #[inline(always)]
+    pub fn quantum(&self) -> u8
+        ensures { result ≡ self.now.quantum }
+    {
+        self.quantum
+    }
+
+    /// Whether more than one activity has its home at the tile.
+    #[inline(always)]
+    pub fn is_shared(&self, tile: TileId) -> bool
+        ensures { result ≡ is_shared tile self.now.homes }
+    {
+        self.crowds[usize::from(tile.number())] == 2
+    }
+
+    /// Whether the activity of this number has a program.
+    #[inline(always)]
+    pub fn has_program(&self, act: u8) -> bool
+        ensures { result ≡ has_program self.now act }
+    {
+        match self.programs.get(usize::from(act)) {
+            Some(has_program) => *has_program,
+            None => false,
         }
     }
 

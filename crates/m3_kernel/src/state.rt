@@ -1,10 +1,12 @@
-//! The kernel's data: the seats with the tables that find them, the grants, and the number of the next packet.
+//! The kernel's data: the seats with the tables that find them, the grants, the ready lists, and the number of the next
+//! packet.
 
 mod opening;
 mod orders;
 mod switch;
 mod take;
 mod tend;
+mod wanted;
 
 ghost use Rattle.std.specs.Prelude.{◌≡◌, ◌<◌, None, length, slice_index_or, OnOk};
 ghost use Rattle.m3_model.specs.Kernel.Step.{then_restore};
@@ -20,8 +22,10 @@ use crate::site::Site;
 use m3_base::event::Said;
 use m3_base::ids::TileId;
 use m3_base::packet::Packet;
+use m3_bit_set::bit_set::BitSet;
 use m3_core::parcel::{Emit, Parcel};
 use m3_grants::grants::Grants;
+use m3_sched::sched::Sched;
 use std::alloc::AllocError;
 
 /// All that the kernel has. `Kernel` is this with its invariant.
@@ -37,6 +41,9 @@ pub struct State {
     pub index: Vec<Option<usize>>,
     /// By tile.
     pub berths: Vec<Berth>,
+    pub sched: Sched,
+    /// Who has packets held: nothing is held for an activity that isn't in this set.
+    pub held: BitSet,
 }
 
 impl State {
@@ -51,6 +58,17 @@ impl State {
         }
     }
 
+    /// The same, of any number.
+    #[inline(always)]
+    fn entry_at(&self, number: usize) -> Option<usize>
+        ensures { result ≡ slice_index_or self.now.index.items number None }
+    {
+        match self.index.get(number) {
+            Some(Some(at)) => Some(*at),
+            _ => None,
+        }
+    }
+
     /// The place of the seat of the activity of this number.
     #[tactic(auto, using(crate::proofs::FindEntry::place_by))]
     #[inline(always)]
@@ -59,6 +77,15 @@ impl State {
         ensures { PlaceIs (kernel_in self.now) act result }
     {
         self.entry(act)
+    }
+
+    /// The same, of any number.
+    #[tactic(auto, using(crate::proofs::FindEntry::place_by))]
+    pub fn place_at(&self, number: usize) -> Option<usize>
+        requires { IsKept self.now }
+        ensures { PlaceIs (kernel_in self.now) number result }
+    {
+        self.entry_at(number)
     }
 
     /// What is kept of a tile.
@@ -100,7 +127,7 @@ impl State {
             Some(at) => {
                 let act = self.seats[at].act();
                 let parcel = self.seats[at].restore();
-                self.berths[usize::from(tile.number())].yielded = false;
+                self.sched.came(tile);
                 restores(said, first, act, Emit { to: tile, parcel })
             }
         }
@@ -140,7 +167,9 @@ impl State {
                 Some(Emit { to, parcel })
             }
             _ => {
-                seat.keep(packet);
+                let act = seat.act();
+                seat.hold_packet(packet);
+                self.held.insert(usize::from(act.number()));
                 None
             }
         }

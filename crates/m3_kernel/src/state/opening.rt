@@ -2,9 +2,9 @@
 
 ghost use Rattle.std.specs.Prelude.{◌≡◌, ◌<◌, true, None, [], ◌∷◌, ◌++◌, length, replicate, slice_index_or, is_some, IfOk, OnOk, OnErr};
 ghost use Rattle.m3_base.specs.Setup.Rules.{facts_of};
-ghost use Rattle.m3_model.specs.Config.FromSetup.{site_of};
 ghost use Rattle.m3_model.specs.Config.Site.{tile_of};
 ghost use Rattle.m3_model.specs.Kernel.Step.{entry_of};
+ghost use Rattle.m3_model.specs.SetupOpening.{opened_site};
 ghost use Rattle.m3_kernel.specs.LookupTables.{empty_berth};
 ghost use Rattle.m3_kernel.specs.KernelStateView.{kernel_in, at_site, IsKept};
 ghost use Rattle.m3_kernel.specs.KernelOpening.{new_kernel, with_new_seat, HasPlaceFor, is_taken, resting_with, left_where, CanOpen, IsOpened};
@@ -15,8 +15,10 @@ use crate::site::{Home, Site};
 use crate::state::State;
 use m3_base::ids::{ActId, TileId};
 use m3_base::setup::Setup;
+use m3_bit_set::bit_set::BitSet;
 use m3_core::context::Context;
 use m3_grants::grants::Grants;
+use m3_sched::sched::Sched;
 use std::alloc::{AllocError, Global};
 
 fn no_places(alloc: Global) -> Result<Vec<Option<usize>>, AllocError>
@@ -37,7 +39,6 @@ fn no_berths(alloc: Global) -> Result<Vec<Berth>, AllocError>
         berths.push(Berth {
             leaving: None,
             there: None,
-            yielded: false,
         })?;
     }
     Ok(berths)
@@ -60,10 +61,12 @@ impl State {
     /// The data of a setup's kernel, before its activities have seats.
     fn new(alloc: Global, setup: &Setup) -> Result<State, AllocError>
         ensures kept { IfOk result IsKept }
-        ensures site { IfOk result (λ s. s.site ≡ site_of setup.now.memory [] setup.now.lines) }
+        ensures site { IfOk result (λ s. s.site ≡ opened_site setup.now) }
         ensures kernel { IfOk result (λ s. kernel_in s ≡ new_kernel (facts_of setup.now).grants) }
     {
-        let site = Site::new(alloc, setup.memory(), setup.lines())?;
+        let site = Site::new(alloc, setup)?;
+        let sched = Sched::new(alloc, site.quantum())?;
+        let held = BitSet::new(alloc)?;
         let grants = Grants::new(alloc, setup)?;
         let index = no_places(alloc)?;
         let berths = no_berths(alloc)?;
@@ -74,6 +77,8 @@ impl State {
             seats: Vec::new(alloc),
             index,
             berths,
+            sched,
+            held,
         })
     }
 
@@ -86,7 +91,8 @@ impl State {
         self.berths[usize::from(tile.number())].there.is_some()
     }
 
-    /// The next activity gets a seat: without a context it is Placed, and is the first of its tile; with one it rests.
+    /// The next activity gets a seat: without a context it is Placed, and is the first of its tile; with one it rests, and
+    /// is ready where it has a program.
     fn seat(
         &mut self,
         alloc: Global,
@@ -102,13 +108,15 @@ impl State {
     {
         self.seats.reserve(1)?;
         let at = self.seats.len();
-        let is_first = context.is_none();
+        let rests = context.is_some();
         self.index[usize::from(act.number())] = Some(at);
         self.seats.push_reserved(Seat::new(alloc, act, context));
-        if !is_first {
+        let tile = self.site.tile_of(act.number());
+        if rests {
+            let joins = self.site.has_program(act.number());
+            self.sched.ready_if(joins, tile, act);
             return Ok(());
         }
-        let tile = self.site.tile_of(act.number());
         self.berths[usize::from(tile.number())].there = Some(at);
         Ok(())
     }

@@ -6,7 +6,7 @@ ghost use Rattle.m3_base.specs.Ideal.State.{holder};
 ghost use Rattle.m3_base.specs.Placement.Order.{least_closing};
 ghost use Rattle.m3_model.specs.Kernel.Step.{entry_of, kernel_id, kernel_order, kernel_close};
 ghost use Rattle.m3_kernel.specs.KernelStateView.{kernel_in, IsKept, CanRoute};
-ghost use Rattle.m3_kernel.specs.OrderAnswers.{HasNumber, HolderIsSeated, MayTakeMemory, Orders, Closes, is_sent};
+ghost use Rattle.m3_kernel.specs.OrderAnswers.{HasNumber, HolderIsSeated, HoldersAreSeated, IsNoneDue, MayTakeMemory, Orders, Closes, is_sent};
 ghost use Rattle.m3_kernel.specs.StepContracts.{IsSeatOf, DueCloseIs, IsDueClose};
 ghost use Rattle.m3_kernel.specs.declared.order.OrderRefusal.{OrderRefusal};
 
@@ -127,6 +127,7 @@ impl State {
         requires number { HasNumber (kernel_in self.old) }
         ensures kept { IsKept self.new }
         ensures site { self.new.site ≡ self.old.site }
+        ensures grant { result.grant ≡ due.grant }
         ensures closes { kernel_close self.old.site (kernel_in self.old) ≡ is_sent result (kernel_in self.new) }
     {
         let DueClose { grant, act: to, ep } = due;
@@ -143,6 +144,7 @@ impl State {
         ensures kept { IsKept self.new }
         ensures site { self.new.site ≡ self.old.site }
         ensures ok { IfOk result (λ r. Closes r (kernel_in self.new) (kernel_close self.old.site (kernel_in self.old))) }
+        ensures due { HoldersAreSeated (kernel_in self.old) → IfOk result (λ r. IsNoneDue r (kernel_in self.old)) }
         ensures err { OnErr result (kernel_in self.new ≡ kernel_in self.old) }
     {
         let Some(due) = self.due_close() else {

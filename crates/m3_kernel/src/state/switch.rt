@@ -22,7 +22,7 @@ pub struct Switch {
 
 impl State {
     /// Who leaves the tile and who comes by a switch, or why it is refused.
-    fn judge(&self, tile: TileId, act: ActId) -> Result<Switch, OrderRefusal>
+    fn check_switch(&self, tile: TileId, act: ActId) -> Result<Switch, OrderRefusal>
         requires { IsKept self.now }
         ensures judges { Judges self.now tile act result }
         ensures memory { result ≢ Err OrderRefusal.NoMemory }
@@ -60,8 +60,8 @@ impl State {
         }
     }
 
-    /// The switch is carried out: Save goes to who leaves.
-    fn swap(&mut self, tile: TileId, act: ActId, pair: Switch) -> Ordered
+    /// The switch is carried out: who comes isn't ready any more, and Save goes to who leaves.
+    fn perform_switch(&mut self, tile: TileId, act: ActId, pair: Switch) -> Ordered
         requires kept { IsKept self.old }
         requires allowed { IsSwitch self.old tile act pair }
         ensures kept { IsKept self.new }
@@ -71,11 +71,12 @@ impl State {
     {
         let Switch { leaves, comes } = pair;
         let leaver = self.seats[leaves].act();
-        self.seats[leaves].leave();
-        self.seats[comes].come();
+        self.seats[leaves].start_save();
+        self.seats[comes].start_restore();
         let berth = &mut self.berths[usize::from(tile.number())];
         berth.leaving = Some(leaves);
         berth.there = Some(comes);
+        self.sched.take_out(tile, act);
         let parcel = Parcel::Save(leaver);
         Ordered::Save {
             leaving: leaver,
@@ -92,7 +93,7 @@ impl State {
             (switch self.old.site (kernel_in self.old) tile (entry_of act (kernel_in self.old))) }
         ensures memory { result ≢ Err OrderRefusal.NoMemory }
     {
-        let pair = self.judge(tile, act)?;
-        Ok(self.swap(tile, act, pair))
+        let pair = self.check_switch(tile, act)?;
+        Ok(self.perform_switch(tile, act, pair))
     }
 }

@@ -1,7 +1,8 @@
 //! Parcels that the kernel takes.
 
-ghost use Rattle.std.specs.Prelude.{◌≡◌, IfOk, IfErr, OnErr, length, Some};
+ghost use Rattle.std.specs.Prelude.{◌≡◌, ◌&&◌, not, IfOk, IfErr, OnErr, length, Some};
 ghost use Rattle.m3_base.specs.Ideal.State.{grant_in};
+ghost use Rattle.m3_model.specs.Config.Site.{has_program};
 ghost use Rattle.m3_kernel.specs.ParcelView.{parcel_of};
 ghost use Rattle.m3_model.specs.Kernel.Step.{entry_of, kernel_take, take_data, take_saved, take_yield, take_closed};
 ghost use Rattle.m3_kernel.specs.KernelStateView.{kernel_in, IsKept, CanRoute};
@@ -82,7 +83,14 @@ impl State {
         }
     }
 
-    /// Who was Leaving rests, and who comes may be restored.
+    /// Whether one that rests is ready: it has a program, which neither waits nor has ended.
+    fn is_ready(&self, act: ActId, waiting: bool, ended: bool) -> bool
+        ensures { result ≡ (has_program self.now.site act && (not waiting && not ended)) }
+    {
+        self.site.has_program(act.number()) && !waiting && !ended
+    }
+
+    /// Who was Leaving rests, and is ready where its program has something to do; and who comes may be restored.
     fn rest(&mut self, at: usize, context: Context, waiting: bool, ended: bool) -> Done
         requires kept { IsKept self.old }
         requires place { IsSeatOf (kernel_in self.old) context.act at }
@@ -97,6 +105,8 @@ impl State {
         let tile = self.site.tile_of(act.number());
         self.seats[at].rest(context, ended);
         self.berths[usize::from(tile.number())].leaving = None;
+        let joins = self.is_ready(act, waiting, ended);
+        self.sched.ready_if(joins, tile, act);
         self.then_restore(Said::Saved(act), tile, None)
     }
 
@@ -116,7 +126,7 @@ impl State {
             Place::Coming => dropped(),
             _ => {
                 let tile = self.site.tile_of(act.number());
-                self.berths[usize::from(tile.number())].yielded = true;
+                self.sched.yielded(tile);
                 says(Said::Yielded(act), None)
             }
         }

@@ -1,11 +1,11 @@
-use Rattle.std.proofs.Common.{◌+◌, ◌∷◌, ◌∙◌, List, drop, ap}
+use Rattle.std.proofs.Common.{◌+◌, ◌∙◌, List, drop, ap}
 use Rattle.std.specs.Prelude.{Option}
 use Rattle.m3_base.specs.Ideal.Context.{Context}
 use Rattle.m3_model.specs.Config.Site.{Site}
 use Rattle.m3_kernel.specs.HomeTableView.{value_of}
 use Rattle.m3_model.specs.SetupOpening.{opened_site}
 use Rattle.m3_kernel.specs.KernelStateView.{KernelAt, at_site}
-use Rattle.m3_kernel.proofs.OpenAll.{Progress, at_home, is_fresh, its_home, has_context, progress_begin, progress_more, progress_end}
+use Rattle.m3_kernel.proofs.OpenAll.{at_home, is_fresh, its_home, has_context, progress_begin, progress_more, progress_end}
 use Rattle.m3_kernel.proofs.state.State.open.Goals as goal
 
 pub loop-at-init : goal.loop-at-init

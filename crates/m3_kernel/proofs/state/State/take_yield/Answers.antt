@@ -1,4 +1,4 @@
-use Rattle.std.proofs.Common.{◌≡◌, ℕ, ◌<◌, ◌∙◌, None, sym, ap, subst}
+use Rattle.std.proofs.Common.{◌≡◌, ℕ, ◌∙◌, None, ap, subst}
 use Rattle.m3_base.specs.declared.event.Said.{Said}
 use Rattle.m3_model.specs.Config.Site.{tile_of}
 use Rattle.m3_model.specs.Kernel.Step.{entry_of, take_yield}
@@ -13,7 +13,6 @@ returns-in_default-place-clause-does c =
     let s = c.args.self.now in
     let a = c.args.act in
     let place = subst (λ (n : ℕ). IsSeatOf (kernel_in s) n c.in-Some.at) c.number.ensures.same c.in-Some.ensures in
-    let tile : c.from.result ≡ tile_of s.site a = c.from.ensures ∙ c.number-in_default-place-2.ensures.same ∙ c.tile_of-tile.ensures ∙ ap (tile_of s.site) c.number-in_default-place.ensures.same in
-    let low : c.from.result < 16 = subst (λ (n : ℕ). n < 16) (sym c.from.ensures) c.number-in_default-place-2.ensures.range in
-    says_does c.says.result (Said.Yielded a) None (yielded_kernel s c.requires a c.in-Some.at place c.index.result.now c.index.ensures c.from.result tile low c.index_mut.result.now c.index_mut.ensures.value) (take_yield s.site (kernel_in s) a (entry_of a (kernel_in s))) c.says.ensures
-    (yield_is s c.requires a c.in-Some.at place c.index.result.now c.index.ensures c.from.result tile low c.index_mut.result.now c.index_mut.ensures.value (λ q. c.in_default-place.not-Resting (c.place-2.ensures ∙ q)) (λ q. c.in_default-place.not-Coming (c.place-2.ensures ∙ q)))
+    let tile : c.tile_of-tile.result ≡ tile_of s.site a = c.tile_of-tile.ensures ∙ ap (tile_of s.site) c.number-in_default-place.ensures.same in
+    says_does c.says.result (Said.Yielded a) None (yielded_kernel s c.requires a c.in-Some.at place c.index.result.now c.index.ensures c.tile_of-tile.result tile c.yielded.new.self c.yielded.ensures) (take_yield s.site (kernel_in s) a (entry_of a (kernel_in s))) c.says.ensures
+    (yield_is s c.requires a c.in-Some.at place c.index.result.now c.index.ensures c.tile_of-tile.result tile c.yielded.new.self c.yielded.ensures (λ q. c.in_default-place.not-Resting (c.place-2.ensures ∙ q)) (λ q. c.in_default-place.not-Coming (c.place-2.ensures ∙ q)))

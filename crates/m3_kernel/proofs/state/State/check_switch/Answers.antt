@@ -4,7 +4,7 @@ use Rattle.m3_model.specs.Config.Site.{tile_of}
 use Rattle.m3_kernel.specs.KernelStateView.{kernel_in}
 use Rattle.m3_kernel.specs.StepContracts.{IsSeatOf}
 use Rattle.m3_kernel.proofs.PerformSwitch.{is_switch}
-use Rattle.m3_kernel.proofs.state.State.judge.Goals as goal
+use Rattle.m3_kernel.proofs.state.State.check_switch.Goals as goal
 
 pub returns-in-Some-leaver-clause-judges : goal.returns-in-Some-leaver-clause-judges
 returns-in-Some-leaver-clause-judges c =

@@ -5,7 +5,7 @@ use Rattle.m3_kernel.specs.ParcelView.{heard_in}
 use Rattle.m3_kernel.specs.PendingAnswer.{IsSettled, AreNotBoth}
 use Rattle.m3_kernel.specs.ArrivalView.{arrival_of}
 use Rattle.m3_kernel.proofs.HeardAnswer.{not_both, settled_then}
-use Rattle.m3_kernel.proofs.away.Away.meet.Goals as goal
+use Rattle.m3_kernel.proofs.away.Away.deliver.Goals as goal
 
 pub invariant_of-self : goal.invariant_of-self
 invariant_of-self c =

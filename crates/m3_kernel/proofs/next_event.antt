@@ -1,0 +1,3 @@
+pub mod LeastTend
+pub mod LeastHeld
+pub mod WantedSwitch

@@ -1,0 +1,2 @@
+pub mod ReadyListView
+pub mod SchedView
