@@ -1,9 +1,15 @@
 pub mod AllByIndex
+pub mod AnsweredAsk
 pub mod ContextTable
 pub mod FirstFrom
 pub mod GrantLines
-pub mod LeastTend
+pub mod IssueHears
 pub mod OpenedParts
 pub mod OpensInBounds
 pub mod PartStep
+pub mod ShortFront
+pub mod StayHears
+pub mod StayPlace
+pub mod StayTable
 pub mod TileTake
+pub mod TileTurn

@@ -1,5 +1,5 @@
 -- The tiles, the kernel and the links that the code opens with are those of the machine that its setup opens.
-use Rattle.std.proofs.Common.{◌≡◌, ℕ, zero, suc, ◌<◌, false, List, [], ◌∷◌, ◌++◌, length, get_or, set, replicate, Option, Some, None, refl, sym, ap, ◌∙◌, subst}
+use Rattle.std.proofs.Common.{◌≡◌, ℕ, zero, suc, ◌<◌, false, List, [], ◌∷◌, ◌++◌, length, get_or, set, replicate, Option, Some, None, refl, sym, ap, ◌∙◌}
 use Rattle.std.specs.Prelude.{◌&&◌, is_some}
 use Rattle.std.proofs.lemmas.List.{get_or_default, length-set}
 use Rattle.m3_base.specs.Lists.Keyed as keyed
@@ -18,7 +18,7 @@ use Rattle.m3_model.specs.Machine.{Machine, empty_tile, empty_tiles, tile_at, co
 use Rattle.m3_kernel.specs.KernelStateView.{KernelAt}
 use Rattle.m3_kernel.specs.KernelOpening.{left_for, opened_kernel}
 use Rattle.m3_kernel.specs.ParcelView.{parcels_of}
-use Rattle.m3_kernel.proofs.OpeningHomes.{Found, Stands, Waits, context_at_opening, each_found_home, each_waits, stands_still, valid_apart}
+use Rattle.m3_kernel.proofs.OpeningHomes.{Stands, Waits, context_at_opening, each_found_home, each_waits, stands_still, valid_apart}
 use Rattle.m3_kernel.proofs.OpenAll.{as_machine, Fresh, entry_kept, entry_last, fresh_more, each_true}
 use Rattle.m3_model.specs.SetupOpening.{opened_by_setup, opened_site}
 use Rattle.m3_trace.proofs.ValidSetup.{valid_seated}

@@ -2,10 +2,9 @@
 use Rattle.std.proofs.Common.{◌≡◌, ℕ, zero, suc, List, [], ◌∷◌, get_or, map, replicate, Option, Some, None, refl, ◌∙◌, arith}
 use Rattle.m3_base.specs.Lists.EachElement.{Each}
 use Rattle.m3_merge.proofs.MergedIsRun.{each_append}
-use Rattle.m3_base.specs.declared.setup_line.SetupLine.{SetupLine}
 use Rattle.m3_base.specs.Ideal.Context.{Context}
 use Rattle.m3_base.specs.Ideal.State.{State, context_of}
-use Rattle.m3_base.specs.Ideal.Opening.{opening, with_line, with_lines}
+use Rattle.m3_base.specs.Ideal.Opening.{opening}
 use Rattle.m3_base.specs.Setup.Rules.{SetupValue, IsValid}
 use Rattle.m3_model.specs.Config.Site.{Home}
 use Rattle.m3_model.specs.Tile.State.{Tile}

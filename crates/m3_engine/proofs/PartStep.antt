@@ -10,26 +10,26 @@ use Rattle.m3_base.specs.Ideal.State.{holder, same_act}
 use Rattle.m3_base.specs.Lists.Keyed as keyed
 use Rattle.m3_base.specs.declared.event.Event.{Event}
 use Rattle.m3_base.specs.declared.event.IdleWhy.{IdleWhy}
+use Rattle.m3_base.specs.declared.event.Made.{Made}
 use Rattle.m3_base.specs.declared.event.Said.{Said}
 use Rattle.m3_base.specs.declared.event.Outcome.{Outcome}
 use Rattle.m3_base.specs.Ideal.Context.{Context, Endpoint, Free, Sends, Receives, Reaches, endpoint}
 use Rattle.m3_core.specs.declared.parcel.Emit.{Emit}
 use Rattle.m3_core.specs.declared.parcel.Parcel.{Parcel as CodeParcel}
 use Rattle.m3_link.specs.LinkOps.{place, list_at, with_pushed, with_popped, first, put_back}
-use Rattle.m3_model.specs.Config.Site.{Site, Home, home_act, home_of, tile_of, tile_in}
+use Rattle.m3_model.specs.Config.Site.{Site, Home, home_act}
 use Rattle.m3_model.specs.Events.{IsOfSetup}
 use Rattle.m3_model.specs.Kernel.State.{ActivityEntry, Kernel}
 use Rattle.m3_model.specs.Kernel.Step.{entry_act, kernel_order}
 use Rattle.m3_model.specs.Parcel.{Parcel}
-use Rattle.m3_model.specs.Tile.State.{Tile}
+use Rattle.m3_model.specs.Tile.State.{Resident, Tile}
+use Rattle.m3_model.specs.StayMoves.{HasFewMoves, StaysAreShort}
 use Rattle.m3_model.specs.LocalStep.{LocalResult, idle_result}
-use Rattle.m3_model.specs.Config.KnownActivities.{is_home, next_token_at}
+use Rattle.m3_model.specs.Config.KnownActivities.{next_token_at}
 use Rattle.m3_core.specs.Preconditions.{HasTokenFor}
 use Rattle.m3_core.specs.EndpointStep.{HasToken}
 use Rattle.m3_model.specs.NumberBounds.{HasBoundedCounters, CountersBounded, CountersBoundedIn, TileBounded}
-use Rattle.m3_model.specs.Invariant.Housing.{IsSetup}
-use Rattle.m3_model.specs.Tile.Step.{tile_do, tile_take}
-use Rattle.m3_model.specs.Memory.Step.{memory_take}
+use Rattle.m3_model.specs.Tile.Step.{resident_act, resident_of}
 use Rattle.m3_model.specs.Machine as machine
 use Rattle.m3_kernel.specs.ParcelView.{parcel_of, parcels_of, out_of}
 use Rattle.m3_kernel.specs.declared.done.Done.{Done}
@@ -42,9 +42,10 @@ use Rattle.m3_engine.specs.declared.tile.TileDid.{TileDid}
 use Rattle.m3_engine.specs.TileStepView.{Does}
 use Rattle.m3_base.specs.ExtentFiles.ScriptEntries.{plain_outcome as plain}
 use Rattle.m3_engine.specs.TileView.{CanIssue}
+use Rattle.m3_engine.specs.TurnView.{CanTurn, IsShort, TurnDoes}
 use Rattle.m3_engine.specs.PartsView.{Parts, linked, part_of, IsNoTake, DoesAt}
-use Rattle.m3_engine.specs.EngineView.{EngineAt, Makes, out_links}
-use Rattle.m3_refine.proofs.lists.EachElement.{each_read}
+use Rattle.m3_engine.specs.EngineView.{Makes, out_links}
+use Rattle.m3_refine.proofs.lists.EachElement.{InSome, each_found, each_read}
 use Rattle.m3_kernel.proofs.AnswerOut.{nothing_more}
 
 -- ---- links
@@ -196,25 +197,65 @@ module _ (t : ℕ) (old new : Parts) (done : Done) (step : Option (LocalResult m
       })
 
 -- an event that takes no parcel
-plain_step : (h : Site) (m : machine.Machine) (e : Event) → IsNoTake e → machine.machine_step h m e None ≡ machine.done_by (machine.tile_for_event h e) m (machine.part_step h (machine.part_at (machine.tile_for_event h e) m) e None None)
-plain_step h m (Event.Do a c) own = refl
-plain_step h m (Event.Take to from) own = absurd own
-plain_step h m (Event.Turn a) own = refl
-plain_step h m (Event.Tend a) own = refl
-plain_step h m Event.Close own = refl
-plain_step h m (Event.Order o) own = refl
-plain_step h m (Event.File l) own = refl
+plain_step : (h : Site) (m : machine.Machine) (e : Event) (made : Option Made) → IsNoTake e → machine.machine_step h m e made ≡ machine.done_by (machine.tile_for_event h e) m (machine.part_step h (machine.part_at (machine.tile_for_event h e) m) e made None)
+plain_step h m (Event.Do a c) made own = refl
+plain_step h m (Event.Take to from) made own = absurd own
+plain_step h m (Event.Turn a) made own = refl
+plain_step h m (Event.Tend a) made own = refl
+plain_step h m Event.Close made own = refl
+plain_step h m (Event.Order o) made own = refl
+plain_step h m (Event.File l) made own = refl
 
-pub makes : (old new : Parts) (links now : List (List Parcel)) (e : Event) (t : ℕ) (done : Done) → IsNoTake e → t ≡ machine.tile_for_event old.site e
-    → DoesAt (machine.tile_for_event old.site e) old new done (machine.part_step old.site (part_of (machine.tile_for_event old.site e) old) e None None)
+-- the event is no turn
+abbrev pub IsNoTurn : Event → Type 0
+IsNoTurn (Event.Turn a) = ⊥
+IsNoTurn event = Unit {0}
+
+-- no move is asked for where the event is no turn
+unmoved : (h : Site) (part : machine.Part) (e : Event) (made : Option Made) (q : Option Parcel) → IsNoTurn e → machine.part_step h part e made q ≡ machine.part_step h part e None q
+unmoved h part (Event.Turn a) made q other = absurd other
+unmoved h (machine.Kernel_part k) (Event.Take to from) made (Some q) other = refl
+unmoved h (machine.Memory_part x) (Event.Take to from) made (Some q) other = refl
+unmoved h (machine.Tile_part t) (Event.Take to from) made (Some q) other = refl
+unmoved h (machine.Kernel_part k) (Event.Take to from) made None other = refl
+unmoved h (machine.Memory_part x) (Event.Take to from) made None other = refl
+unmoved h (machine.Tile_part t) (Event.Take to from) made None other = refl
+unmoved h (machine.Kernel_part k) (Event.Do a c) made q other = refl
+unmoved h (machine.Memory_part x) (Event.Do a c) made q other = refl
+unmoved h (machine.Tile_part t) (Event.Do a c) made q other = refl
+unmoved h (machine.Kernel_part k) (Event.Tend a) made q other = refl
+unmoved h (machine.Memory_part x) (Event.Tend a) made q other = refl
+unmoved h (machine.Tile_part t) (Event.Tend a) made q other = refl
+unmoved h (machine.Kernel_part k) Event.Close made q other = refl
+unmoved h (machine.Memory_part x) Event.Close made q other = refl
+unmoved h (machine.Tile_part t) Event.Close made q other = refl
+unmoved h (machine.Kernel_part k) (Event.Order o) made q other = refl
+unmoved h (machine.Memory_part x) (Event.Order o) made q other = refl
+unmoved h (machine.Tile_part t) (Event.Order o) made q other = refl
+unmoved h (machine.Kernel_part k) (Event.File l) made q other = refl
+unmoved h (machine.Memory_part x) (Event.File l) made q other = refl
+unmoved h (machine.Tile_part t) (Event.File l) made q other = refl
+
+-- with the move that the outcome tells
+pub makes_with : (old new : Parts) (links now : List (List Parcel)) (e : Event) (t : ℕ) (done : Done) → IsNoTake e → t ≡ machine.tile_for_event old.site e
+    → DoesAt (machine.tile_for_event old.site e) old new done (machine.part_step old.site (part_of (machine.tile_for_event old.site e) old) e done.outcome.made None)
     → now ≡ out_links t (out_of done.first ++ out_of done.second) links
     → Makes (record { site = old.site; machine = linked links old }) e done.outcome (record { site = new.site; machine = linked now new })
-makes old new links now e t done own here does out = record {
+makes_with old new links now e t done own here does out = record {
   moved =
-      plain_step old.site (linked links old) e own
+      plain_step old.site (linked links old) e done.outcome.made own
       ∙ after_deed (machine.tile_for_event old.site e) old new done _ does links now (out ∙ ap (λ k. out_links k (out_of done.first ++ out_of done.second) links) here);
   site = does.site;
 }
+
+pub makes : (old new : Parts) (links now : List (List Parcel)) (e : Event) (t : ℕ) (done : Done) → IsNoTake e → IsNoTurn e → t ≡ machine.tile_for_event old.site e
+    → DoesAt (machine.tile_for_event old.site e) old new done (machine.part_step old.site (part_of (machine.tile_for_event old.site e) old) e None None)
+    → now ≡ out_links t (out_of done.first ++ out_of done.second) links
+    → Makes (record { site = old.site; machine = linked links old }) e done.outcome (record { site = new.site; machine = linked now new })
+makes old new links now e t done own other here does out =
+    makes_with old new links now e t done own here (
+    subst (DoesAt (machine.tile_for_event old.site e) old new done) (sym (unmoved old.site (part_of (machine.tile_for_event old.site e) old) e done.outcome.made None other)) does
+    ) out
 
 -- a take
 module _ (old : Parts) (links : List (List CodeParcel)) (to from : ℕ) where
@@ -234,7 +275,8 @@ module _ (old : Parts) (links : List (List CodeParcel)) (to from : ℕ) where
         → Makes (record { site = old.site; machine = still }) (Event.Take to from) done.outcome (record { site = new.site; machine = linked (parcels_of now) new })
     takes new now done does out = record {
       moved =
-          ap (λ l. machine.done_by to (machine.with_link from to (machine.rest l) still) (machine.part_step old.site (machine.part_at to still) (Event.Take to from) None (machine.front l))) at_front
+          ap (machine.done_by to (machine.with_link from to (machine.rest (machine.link_at from to still)) still)) (unmoved old.site (machine.part_at to still) (Event.Take to from) done.outcome.made (machine.front (machine.link_at from to still)) tt)
+          ∙ ap (λ l. machine.done_by to (machine.with_link from to (machine.rest l) still) (machine.part_step old.site (machine.part_at to still) (Event.Take to from) None (machine.front l))) at_front
           ∙ after_deed to old new done _ does (set (parcels_of links) (place from to) left) (parcels_of now)
           (out ∙ ap (out_links to (out_of done.first ++ out_of done.second)) (map-set (map parcel_of) links (place from to) (drop 1 (get_or links (place from to) []))));
       site = does.site;
@@ -263,7 +305,8 @@ module _ (old : Parts) (links : List (List CodeParcel)) (to from : ℕ) where
     pub takes_nothing : (o : Outcome) → o ≡ plain (Said.Idle IdleWhy.EmptyLink) → Makes (record { site = old.site; machine = still }) (Event.Take to from) o (record { site = old.site; machine = still })
     takes_nothing o says = record {
       moved =
-          ap (λ l. machine.done_by to (machine.with_link from to (machine.rest l) still) (machine.part_step old.site (machine.part_at to still) (Event.Take to from) None (machine.front l))) no_link
+          ap (machine.done_by to (machine.with_link from to (machine.rest (machine.link_at from to still)) still)) (unmoved old.site (machine.part_at to still) (Event.Take to from) o.made (machine.front (machine.link_at from to still)) tt)
+          ∙ ap (λ l. machine.done_by to (machine.with_link from to (machine.rest l) still) (machine.part_step old.site (machine.part_at to still) (Event.Take to from) None (machine.front l))) no_link
           ∙ idle_part (machine.part_at to still)
           ∙ ap Some (λ i. record {
             outcome = sym says i;
@@ -300,3 +343,23 @@ pub order_kept : {E : Type 0} (old : Parts) (now : KernelAt) (o : Order) (answer
     → OnErr done (record { site = now.site; kernel = now.kernel; memory = old.memory; tiles = old.tiles } ≡ old)
 order_kept old now o answer (Ok done) site tells orders = tt
 order_kept old now o answer (Err e) site tells orders = (λ i. record { site = site i; kernel = tells old.kernel now.kernel (kernel_order old.site old.kernel o) orders i; memory = old.memory; tiles = old.tiles })
+
+-- ---- turns
+
+-- a tile made a turn
+pub turn_at : (old : Parts) (at : ℕ) (now : Tile) (t : ℕ) (did : TileDid) (turn : Option (LocalResult Tile)) (step : Option (LocalResult machine.Part)) → at ≡ t → step ≡ machine.of_turn turn → TurnDoes did now turn
+    → DoesAt t old (record { site = old.site; kernel = old.kernel; memory = old.memory; tiles = set old.tiles at now }) (single did) step
+turn_at old at now t did None step here is does = absurd does
+turn_at old at now t did (Some d) step here is does = tile_at old at now t did d step here is does
+
+-- low numbers and short stays leave room for a move
+pub can_turn : (n : ℕ) (m : machine.Machine) (t a : ℕ) (made : Option Made) → n ≤ 2097152 → CountersBounded n m → StaysAreShort n m → IsShort made → CanTurn (machine.tile_at t m) a made
+can_turn n m t a None few low stays short = tt
+can_turn n m t a (Some (Made.Await ep)) few low stays short = λ x y current found. tt
+can_turn n m t a (Some Made.Quantum) few low stays short = λ x y current found. tt
+can_turn n m t a (Some Made.End) few low stays short = λ x y current found. tt
+can_turn n m t a (Some (Made.Command c)) few low stays short = λ x y current found.
+    let issues : CanIssue (Some x) c = subst (λ (o : Option Context). CanIssue o c) current (can_issue n m t c few low) in
+    let moves : InSome (λ (z : Resident). z.moves ≤ n) (resident_of a (machine.tile_at t m)) = each_found (λ (z : Resident). z.moves ≤ n) resident_act same_act a (machine.tile_at t m).stays (each_read (HasFewMoves n) m.tiles t (machine.empty_tile t) stays tt) in
+    let few_moves : y.moves ≤ n = subst (InSome (λ (z : Resident). z.moves ≤ n)) found moves in
+    (issues.0, issues.1, short, omega (arith, few_moves, few))

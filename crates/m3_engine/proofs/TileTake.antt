@@ -1,166 +1,170 @@
--- A tile without programs takes data, a Save and a Restore as its local steps say.
-use Rattle.std.proofs.Common.{◌≡◌, ℕ, Bool, true, false, List, [], ◌∷◌, map, Option, Some, None, refl, sym, ap, ◌∙◌, subst, arith}
-use Rattle.std.specs.Prelude.{if◌then◌else◌, ◌==◌, ◌&&◌, ◌||◌, is_some}
-use Rattle.std.specs.List.{list_any}
+-- A tile takes data, a Save and a Restore as its local steps say.
+use Rattle.std.proofs.Common.{◌≡◌, ℕ, Bool, true, false, List, [], ◌∷◌, ◌++◌, Option, Some, None, refl, sym, ap, ◌∙◌, subst, arith}
+use Rattle.std.specs.Prelude.{if◌then◌else◌, ◌==◌, ◌&&◌, is_some}
 use Rattle.std.proofs.lemmas.Bool.Decides.{nat_tests}
 use Rattle.m3_base.specs.declared.packet.Packet.{Packet}
+use Rattle.m3_base.specs.declared.event.IdleWhy.{IdleWhy}
 use Rattle.m3_base.specs.declared.event.Said.{Said}
-use Rattle.m3_base.specs.Lists.Keyed as keyed
-use Rattle.m3_base.specs.Ideal.State.{same_act}
+use Rattle.m3_base.specs.Ideal.Acceptance.{fits, arrive_fit}
+use Rattle.m3_base.specs.Ideal.Arrival.{Arrival, arrive}
 use Rattle.m3_base.specs.Ideal.Context.{Context}
-use Rattle.m3_base.specs.Ideal.Arrival.{Arrival}
 use Rattle.m3_base.specs.Placement.Routing.{target}
 use Rattle.m3_base.specs.Placement.Take.{is_here}
-use Rattle.m3_engine.specs.declared.tile.TileDid.{TileDid}
-use Rattle.m3_model.specs.Config.Site.{Site}
-use Rattle.m3_model.specs.Parcel.{Heard, Saved}
-use Rattle.m3_model.specs.Tile.State.{First, Resident, Tile}
-use Rattle.m3_model.specs.LocalStep.{LocalResult, local_result, dropped_result, heard_in_answer}
-use Rattle.m3_kernel.specs.ParcelView.{out_of}
-use Rattle.m3_model.specs.Tile.Step.{resident_act, resident_of, with_resident, seen_after_answers, resident_after_answers, heard_by, act_in, take_arrived, arrive_named, take_here, bounced, take_data, is_waiting, is_waiting_resident, has_ended, with_current, take_save, resident_at_restore, after_restore, may_return, take_restore}
-use Rattle.m3_model.specs.Machine.{new_stay}
-use Rattle.m3_engine.specs.TileView.{runs}
-use Rattle.m3_engine.specs.TileStepView.{Lands, Does}
 use Rattle.m3_base.specs.ExtentFiles.ScriptEntries.{plain_outcome as plain}
-use Rattle.m3_base.proofs.Activities.{same_act-turned}
+use Rattle.m3_core.specs.declared.parcel.Heard.{Heard as CodeHeard}
+use Rattle.m3_kernel.specs.ArrivalView.{arrival_of}
+use Rattle.m3_kernel.specs.ParcelView.{heard_in, out_of}
+use Rattle.m3_kernel.specs.declared.came.Came.{Came}
+use Rattle.m3_model.specs.Config.KnownActivities.{is_named}
+use Rattle.m3_model.specs.Config.Site.{Site}
+use Rattle.m3_model.specs.LocalStep.{data_out, answer_tile, closed_out, local_result, dropped_result, heard_in_answer}
+use Rattle.m3_model.specs.Parcel.{Heard, Saved}
+use Rattle.m3_model.specs.Tile.State.{Resident, Tile}
+use Rattle.m3_model.specs.Tile.Step.{new_out, heard_by, act_in, take_arrived, arrive_named, take_here, bounced, take_data, is_waiting_resident, has_ended, take_save, resident_after_answers, resident_at_restore, after_restore, may_return, take_restore, resident_of}
+use Rattle.m3_engine.specs.StayView.{HearsOf, stay_in, stays_after_answers, replaced_if, with_stay}
+use Rattle.m3_engine.specs.TileStepView.{Lands, Does}
+use Rattle.m3_engine.specs.TileView.{runs, accepts, TileHears}
+use Rattle.m3_engine.specs.declared.tile.TileDid.{TileDid}
+use Rattle.m3_refine.proofs.arrival.ArriveKeeps.{KeptBy, arrive_keeps}
 
--- a program that has made no move hears nothing
-still_first : (xs : List Heard) → seen_after_answers First xs ≡ First
-still_first [] = refl
-still_first (x ∷ xs) = still_first xs
+-- the tile of these stays, with this current context
+abbrev tile_with : ℕ → List Resident → Option Context → Tile
+tile_with t ys c = record { tile = t; current = c; stays = ys }
 
-hears_none : (xs : List Heard) (a : ℕ) → resident_after_answers xs (new_stay a) ≡ new_stay a
-hears_none xs a = ap (λ s. record (new_stay a) { seen = s }) (still_first xs)
+-- ---- data
 
-some_stay : (y z : Resident) → Some z ≡ Some y → y ≡ z
-some_stay y z e = cc
+named_fit : (h : Site) (x : Context) (p : Packet) → is_named h p ≡ true → fits x p ≡ true → arrive_named h x p ≡ arrive x p
+named_fit h x p named fit = ap (λ b. if b then arrive_fit x p else None) named ∙ ap (λ b. if b then arrive x p else None) fit
 
--- an activity of a tile is as at opening
-found_stay : (a : ℕ) (acts : List ℕ) (y : Resident) → keyed.find resident_act same_act a (map new_stay acts) ≡ Some y → y ≡ new_stay a
-found_stay a [] y h = absurd (cc)
-found_stay a (b ∷ acts) y h = by_act (found_stay a acts y) (a == b) refl
-  where
-    by_act : (keyed.find resident_act same_act a (map new_stay acts) ≡ Some y → y ≡ new_stay a) → (t : Bool) → (a == b) ≡ t → y ≡ new_stay a
-    by_act ih true e =
-        let k : a ≡ b = grind (arith, nat_tests, e) in
-        let is : Some (new_stay b) ≡ Some y = subst (λ (t : Bool). (if t then Some (new_stay b) else keyed.find resident_act same_act a (map new_stay acts)) ≡ Some y) e h in
-        some_stay y (new_stay b) is ∙ ap new_stay (sym k)
-    by_act ih false e = ih (subst (λ (t : Bool). (if t then Some (new_stay b) else keyed.find resident_act same_act a (map new_stay acts)) ≡ Some y) e h)
+out_as : (h : Site) (o : Option Packet) → new_out h o ≡ data_out (answer_tile h o) o
+out_as h None = refl
+out_as h (Some p) = refl
 
-same_again : (a : ℕ) (acts : List ℕ) → keyed.with_replaced resident_act same_act (new_stay a) (map new_stay acts) ≡ map new_stay acts
-same_again a [] = refl
-same_again a (b ∷ acts) = by_act (same_again a acts) (a == b) refl
-  where
-    by_act : keyed.with_replaced resident_act same_act (new_stay a) (map new_stay acts) ≡ map new_stay acts → (t : Bool) → (a == b) ≡ t → keyed.with_replaced resident_act same_act (new_stay a) (new_stay b ∷ map new_stay acts) ≡ new_stay b ∷ map new_stay acts
-    by_act ih true e =
-        let k : a ≡ b = grind (arith, nat_tests, e) in
-        ap (λ t. if t then new_stay a ∷ map new_stay acts else new_stay b ∷ keyed.with_replaced resident_act same_act (new_stay a) (map new_stay acts)) e ∙ ap (λ n. new_stay n ∷ map new_stay acts) k
-    by_act ih false e =
-        ap (λ t. if t then new_stay a ∷ map new_stay acts else new_stay b ∷ keyed.with_replaced resident_act same_act (new_stay a) (map new_stay acts)) e ∙ ap (λ xs. new_stay b ∷ xs) ih
+pub lands_as : (h : Site) (d : TileDid) (old new : Context) (p : Packet) (came : Came) → is_named h p ≡ true → fits old p ≡ true → arrive old p ≡ Some (arrival_of came new)
+    → d.outcome ≡ plain came.said → out_of d.emit ≡ new_out h came.answer ++ closed_out came.freed → Lands h d old new p
+lands_as h d old new p came named fit is said sent = record {
+  arrival = arrival_of came new;
+  arrives = named_fit h old p named fit ∙ is;
+  outcome = said;
+  out = sent ∙ ap (λ o. o ++ closed_out came.freed) (out_as h came.answer);
+  context = refl;
+}
 
--- the tile of these activities, with this current context
-abbrev tile_with : ℕ → List ℕ → Option Context → Tile
-tile_with t acts c = record { tile = t; current = c; stays = map new_stay acts }
+both : (a b : Bool) → (a && b) ≡ true → (a ≡ true) × (b ≡ true)
+both true true e = (refl, refl)
+both true false e = absurd (cc)
+both false b e = absurd (cc)
 
-heard_same : (xs : List Heard) (a t : ℕ) (acts : List ℕ) (c : Option Context) (o : Option Resident) → keyed.find resident_act same_act a (map new_stay acts) ≡ o → heard_by xs (tile_with t acts c) o ≡ tile_with t acts c
-heard_same xs a t acts c None h = refl
-heard_same xs a t acts c (Some y) h =
-    let k : resident_after_answers xs y ≡ new_stay a = ap (resident_after_answers xs) (found_stay a acts y h) ∙ hears_none xs a in
-    ap (λ z. with_resident z (tile_with t acts c)) k ∙ ap (λ ys. record { tile = t; current = c; stays = ys }) (same_again a acts)
+pub is_accepted : (h : Site) (p : Packet) (o : Option Context) (x : Context) → accepts h p o ≡ true → o ≡ Some x → (is_named h p ≡ true) × (fits x p ≡ true)
+is_accepted h p o x e some = both (is_named h p) (fits x p) (sym (ap (accepts h p) some) ∙ e)
 
-takes_there : (h : Site) (t : ℕ) (acts : List ℕ) (c new : Context) (p : Packet) (d : TileDid) → is_here (target p) (Some c.act) ≡ true → Lands h d c new (arrive_named h c p) → Does d (tile_with t acts (Some new)) (take_data h (tile_with t acts (Some c)) p)
-takes_there h t acts c new p d here lands =
-    subst (λ (b : Bool). Does d (tile_with t acts (Some new)) (if b then take_here h (tile_with t acts (Some c)) p (Some c) else take_bounced)) (sym here) (by_arrival (arrive_named h c p) lands)
-  where
-    take_bounced : LocalResult Tile
-    take_bounced = bounced (tile_with t acts (Some c)) p (target p)
+-- what the program of a stay hears is what it hears of the packet
+heard_same : (h : Site) (t : ℕ) (ys : List Resident) (p : Packet) (heard : Option CodeHeard) (new : Context) (o : Option Resident)
+    → stay_in new.act ys ≡ o → ((y : Resident) → stay_in new.act ys ≡ Some y → HearsOf p y heard)
+    → tile_with t (replaced_if (resident_after_answers (heard_in heard)) o ys) (Some new) ≡ heard_by (heard_in_answer p) (tile_with t ys (Some new)) o
+heard_same h t ys p heard new None e hears = refl
+heard_same h t ys p heard new (Some y) e hears = ap (λ z. tile_with t (with_stay z ys) (Some new)) (hears y e)
 
-    by_arrival : (o : Option Arrival) → Lands h d c new o → Does d (tile_with t acts (Some new)) (take_arrived h (tile_with t acts (Some c)) p o)
-    by_arrival None l = record { outcome = l.0; part = ap (λ x. tile_with t acts (Some x)) l.2; out = l.1 }
-    by_arrival (Some r) l = record {
-      outcome = l.0;
-      part = ap (λ x. tile_with t acts (Some x)) l.2 ∙ sym (heard_same (heard_in_answer p) r.context.act t acts (Some r.context) (resident_of r.context.act (tile_with t acts (Some c))) refl);
-      out = l.1;
-    }
+module _ (h : Site) (t : ℕ) (ys : List Resident) (x : Context) (p : Packet) (d : TileDid) (heard : Option CodeHeard) where
+  abbrev was : Tile
+  was = tile_with t ys (Some x)
 
-pub takes_data : (h : Site) (old : Tile) (t : ℕ) (acts : List ℕ) (o : Option Context) (c new : Context) (p : Packet) (d : TileDid)
-    → old ≡ tile_with t acts o → o ≡ Some c → is_here (target p) (act_in old.current) ≡ true → Lands h d c new (arrive_named h c p) → Does d (tile_with t acts (Some new)) (take_data h old p)
-takes_data h old t acts o c new p d is some here lands =
-    let whole : old ≡ tile_with t acts (Some c) = is ∙ ap (tile_with t acts) some in
-    subst (λ (x : Tile). Does d (tile_with t acts (Some new)) (take_data h x p)) (sym whole) (
-    takes_there h t acts c new p d (subst (λ (x : Tile). is_here (target p) (act_in x.current) ≡ true) whole here) lands
+  kept_act : (r : Arrival) → is_named h p ≡ true → fits x p ≡ true → arrive_named h x p ≡ Some r → r.context.act ≡ x.act
+  kept_act r named fit e = (subst (KeptBy x p) (sym (named_fit h x p named fit) ∙ e) (arrive_keeps x p)).0
+
+  takes_there : (new : Context) (after : List Resident) → is_named h p ≡ true → fits x p ≡ true → is_here (target p) (Some x.act) ≡ true
+      → ((y : Resident) → stay_in x.act ys ≡ Some y → HearsOf p y heard) → Lands h d x new p → after ≡ stays_after_answers (heard_in heard) new.act ys
+      → Does d (tile_with t after (Some new)) (take_data h was p)
+  takes_there new after named fit here hears lands now =
+      let act : new.act ≡ x.act = ap (λ (c : Context). c.act) lands.context ∙ kept_act lands.arrival named fit lands.arrives in
+      let part : tile_with t after (Some new) ≡ heard_by (heard_in_answer p) (tile_with t ys (Some new)) (stay_in new.act ys) =
+      ap (λ zs. tile_with t zs (Some new)) now ∙ heard_same h t ys p heard new (stay_in new.act ys) refl (λ y e. hears y (ap (λ a. stay_in a ys) (sym act) ∙ e)) in
+      let step : take_data h was p ≡ take_arrived h was p (Some lands.arrival) =
+      ap (λ b. if b then take_here h was p (Some x) else bounced was p (target p)) here ∙ ap (take_arrived h was p) lands.arrives in
+      subst (Does d (tile_with t after (Some new))) (sym step) (
+      record {
+        outcome = lands.outcome;
+        part = part ∙ ap (λ (c : Context). heard_by (heard_in_answer p) (tile_with t ys (Some c)) (stay_in c.act ys)) lands.context;
+        out = lands.out;
+      }
+      )
+
+pub takes_data : (h : Site) (old : Tile) (t : ℕ) (ys : List Resident) (o : Option Context) (x new : Context) (p : Packet) (d : TileDid) (heard : Option CodeHeard) (after : List Resident)
+    → tile_with t ys o ≡ old → o ≡ Some x → is_here (target p) (act_in old.current) ≡ true → accepts h p old.current ≡ true → TileHears p old heard
+    → Lands h d x new p → after ≡ stays_after_answers (heard_in heard) new.act ys → Does d (tile_with t after (Some new)) (take_data h old p)
+takes_data h old t ys o x new p d heard after is some here accepted hears lands now =
+    let whole : tile_with t ys (Some x) ≡ old = ap (tile_with t ys) (sym some) ∙ is in
+    let current : old.current ≡ Some x = ap (λ (y : Tile). y.current) (sym whole) in
+    let fit = is_accepted h p old.current x accepted current in
+    subst (λ (y : Tile). Does d (tile_with t after (Some new)) (take_data h y p)) whole (
+    takes_there h t ys x p d heard new after fit.0 fit.1 (sym (ap (λ c. is_here (target p) (act_in c)) current) ∙ here)
+    (λ y e. hears x y current (ap (λ (z : Tile). resident_of x.act z) (sym whole) ∙ e)) lands now
     )
+
+-- a packet that doesn't fit is dropped
+pub drops_data : (h : Site) (t : Tile) (p : Packet) → is_here (target p) (act_in t.current) ≡ true → accepts h p t.current ≡ false → take_data h t p ≡ dropped_result t
+drops_data h t p here refused = ap (λ b. if b then take_here h t p t.current else bounced t p (target p)) here ∙ by_current t.current refused
+  where
+    by_fit : (x : Context) (a b : Bool) → (a && b) ≡ false → take_arrived h t p (if a then (if b then arrive x p else None) else None) ≡ dropped_result t
+    by_fit x true true e = absurd (cc)
+    by_fit x true false e = refl
+    by_fit x false b e = refl
+
+    by_current : (o : Option Context) → accepts h p o ≡ false → take_here h t p o ≡ dropped_result t
+    by_current None e = refl
+    by_current (Some x) e = by_fit x (is_named h p) (fits x p) e
 
 -- ---- a Save
 
--- none of its activities waits, and none has ended
-waits_not : (a : ℕ) (acts : List ℕ) (x : Context) (o : Option Resident) → keyed.find resident_act same_act a (map new_stay acts) ≡ o → is_waiting_resident x o ≡ false
-waits_not a acts x None e = refl
-waits_not a acts x (Some y) e = ap (is_waiting x) (found_stay a acts y e)
-
-ended_not : (a : ℕ) (acts : List ℕ) (o : Option Resident) → keyed.find resident_act same_act a (map new_stay acts) ≡ o → has_ended o ≡ false
-ended_not a acts None e = refl
-ended_not a acts (Some y) e = ap (λ (z : Resident). z.ended) (found_stay a acts y e)
-
-saves_there : (t a : ℕ) (acts : List ℕ) (c : Context) (d : TileDid) → (c.act == a) ≡ true → d.outcome ≡ plain (Said.Saving a) → out_of d.emit ≡ (0, Saved a c false false) ∷ [] → Does d (tile_with t acts None) (take_save (tile_with t acts (Some c)) a (Some c))
-saves_there t a acts c d here said sent =
-    subst (λ (b : Bool). Does d (tile_with t acts None) (if b then saving else dropped_result was)) (sym here) (
-    record {
-      outcome = said;
-      part = refl;
-      out =
-          let waits_is = waits_not a acts c (resident_of a was) refl in
-          let ended_is = ended_not a acts (resident_of a was) refl in
-          let same : c.act ≡ a = grind (arith, nat_tests, here) in
-          sent ∙ sym (λ i. (0, Saved (same i) c (waits_is i) (ended_is i)) ∷ []);
-    }
+pub saves : (old : Tile) (t a : ℕ) (ys : List Resident) (o : Option Context) (x : Context) (d : TileDid) → tile_with t ys o ≡ old → o ≡ Some x → runs a old.current ≡ true
+    → d.outcome ≡ plain (Said.Saving a) → out_of d.emit ≡ (0, Saved a x (is_waiting_resident x (stay_in a ys)) (has_ended (stay_in a ys))) ∷ []
+    → Does d (tile_with t ys None) (take_save old a old.current)
+saves old t a ys o x d is some here said sent =
+    let whole : tile_with t ys (Some x) ≡ old = ap (tile_with t ys) (sym some) ∙ is in
+    subst (λ (y : Tile). Does d (tile_with t ys None) (take_save y a y.current)) whole (
+    saves_there (subst (λ (y : Tile). runs a y.current ≡ true) (sym whole) here)
     )
   where
-    was : Tile
-    was = tile_with t acts (Some c)
-
-    saving : LocalResult Tile
-    saving = local_result (Said.Saving a) (with_current None (tile_with t acts (Some c))) ((0, Saved c.act c (is_waiting_resident c (resident_of a (tile_with t acts (Some c)))) (has_ended (resident_of a (tile_with t acts (Some c))))) ∷ [])
-
-pub saves : (old : Tile) (t a : ℕ) (acts : List ℕ) (o : Option Context) (c : Context) (d : TileDid) → tile_with t acts o ≡ old → o ≡ Some c → runs a old.current ≡ true → d.outcome ≡ plain (Said.Saving a) → out_of d.emit ≡ (0, Saved a c false false) ∷ []
-    → Does d (tile_with t acts None) (take_save old a old.current)
-saves old t a acts o c d is some here said sent =
-    let whole : tile_with t acts (Some c) ≡ old = ap (tile_with t acts) (sym some) ∙ is in
-    subst (λ (x : Tile). Does d (tile_with t acts None) (take_save x a x.current)) whole (
-    saves_there t a acts c d (subst (λ (x : Tile). runs a x.current ≡ true) (sym whole) here) said sent
-    )
+    saves_there : (x.act == a) ≡ true → Does d (tile_with t ys None) (take_save (tile_with t ys (Some x)) a (Some x))
+    saves_there e =
+        let same : a ≡ x.act = grind (arith, nat_tests, e) in
+        subst (Does d (tile_with t ys None)) (
+        sym (ap (λ b. if b then local_result (Said.Saving a) (tile_with t ys None) ((0, Saved x.act x (is_waiting_resident x (stay_in a ys)) (has_ended (stay_in a ys))) ∷ []) else dropped_result (tile_with t ys (Some x))) e)
+        ) (record { outcome = said; part = refl; out = sent ∙ ap (λ n. (0, Saved n x (is_waiting_resident x (stay_in a ys)) (has_ended (stay_in a ys))) ∷ []) same })
 
 -- ---- a Restore
 
-pub houses_as : (a : ℕ) (acts : List ℕ) → list_any (λ b. b == a) acts ≡ is_some (keyed.find resident_act same_act a (map new_stay acts))
-houses_as a [] = refl
-houses_as a (b ∷ acts) = ap (λ t. t || list_any (λ y. y == a) acts) (same_act-turned b a) ∙ by_test (a == b) (houses_as a acts)
-  where
-    by_test : (t : Bool) → list_any (λ y. y == a) acts ≡ is_some (keyed.find resident_act same_act a (map new_stay acts)) → (t || list_any (λ y. y == a) acts) ≡ is_some (if t then Some (new_stay b) else keyed.find resident_act same_act a (map new_stay acts))
-    by_test true r = refl
-    by_test false r = r
+module _ (h : Site) (old : Tile) (t a : ℕ) (ys : List Resident) (o : Option Context) (x : Context) (xs : List Heard) (d : TileDid) (is : tile_with t ys o ≡ old) (none : is_some o ≡ false) (fit : may_return h a x ≡ true) where
+  no_current : (c : Option Context) → is_some c ≡ false → c ≡ None
+  no_current None e = refl
+  no_current (Some c) e = absurd (cc)
 
-begins : (xs : List Heard) (a : ℕ) → resident_at_restore xs (new_stay a) ≡ new_stay a
-begins xs a = ap (λ s. record (new_stay a) { seen = s }) (still_first xs)
+  whole : tile_with t ys None ≡ old
+  whole = ap (tile_with t ys) (sym (no_current o none)) ∙ is
 
-restored_same : (t : ℕ) (acts : List ℕ) (c : Context) (xs : List Heard) (d : TileDid) (o : Option Resident) → keyed.find resident_act same_act c.act (map new_stay acts) ≡ o → is_some o ≡ true → d.outcome ≡ plain (Said.Current c.act) → out_of d.emit ≡ []
-    → Does d (tile_with t acts (Some c)) (after_restore (tile_with t acts None) c xs o)
-restored_same t acts c xs d None e some said sent = absurd (cc)
-restored_same t acts c xs d (Some y) e some said sent = record {
-  outcome = said;
-  part = sym (
-      ap (λ (z : Resident). with_resident z (tile_with t acts (Some c))) (ap (resident_at_restore xs) (found_stay c.act acts y e) ∙ begins xs c.act)
-      ∙ ap (λ ys. record { tile = t; current = Some c; stays = ys }) (same_again c.act acts)
-      );
-  out = sent;
-}
+  restore_step : take_restore h old a x xs old.current ≡ after_restore (tile_with t ys None) x xs (stay_in x.act ys)
+  restore_step =
+      ap (λ (y : Tile). take_restore h y a x xs y.current) (sym whole)
+      ∙ ap (λ b. if b then after_restore (tile_with t ys None) x xs (stay_in x.act ys) else dropped_result (tile_with t ys None)) fit
 
-pub restores : (h : Site) (old : Tile) (t a : ℕ) (acts : List ℕ) (o : Option Context) (c : Context) (d : TileDid) → tile_with t acts o ≡ old → is_some o ≡ false → may_return h a c ≡ true → is_some (resident_of c.act old) ≡ true
-    → d.outcome ≡ plain (Said.Current c.act) → out_of d.emit ≡ [] → (xs : List Heard) → Does d (tile_with t acts (Some c)) (take_restore h old a c xs old.current)
-restores h old t a acts (Some x) c d is none fit lives said sent xs = absurd (cc)
-restores h old t a acts None c d is none fit lives said sent xs =
-    subst (λ (x : Tile). Does d (tile_with t acts (Some c)) (take_restore h x a c xs x.current)) is (
-    subst (λ (b : Bool). Does d (tile_with t acts (Some c)) (if b then after_restore (tile_with t acts None) c xs (resident_of c.act (tile_with t acts None)) else dropped_result (tile_with t acts None))) (sym fit) (
-    restored_same t acts c xs d (resident_of c.act (tile_with t acts None)) refl (subst (λ (x : Tile). is_some (resident_of c.act x) ≡ true) (sym is) lives) said sent
-    )
-    )
+  by_stay : (o : Option Resident) (after : List Resident) → is_some o ≡ true → after ≡ replaced_if (resident_at_restore xs) o ys → d.outcome ≡ plain (Said.Current x.act) → out_of d.emit ≡ []
+      → Does d (tile_with t after (Some x)) (after_restore (tile_with t ys None) x xs o)
+  by_stay None after there now said sent = absurd (cc)
+  by_stay (Some y) after there now said sent = record { outcome = said; part = ap (λ zs. tile_with t zs (Some x)) now; out = sent }
+
+  pub restores : (after : List Resident) → is_some (stay_in x.act ys) ≡ true → after ≡ replaced_if (resident_at_restore xs) (stay_in x.act ys) ys
+      → d.outcome ≡ plain (Said.Current x.act) → out_of d.emit ≡ [] → Does d (tile_with t after (Some x)) (take_restore h old a x xs old.current)
+  restores after there now said sent =
+      subst (Does d (tile_with t after (Some x))) (sym restore_step) (by_stay (stay_in x.act ys) after there now said sent)
+
+  no_stay : (o : Option Resident) → is_some o ≡ false → (after_restore (tile_with t ys None) x xs o ≡ dropped_result (tile_with t ys None)) × (replaced_if (resident_at_restore xs) o ys ≡ ys)
+  no_stay None there = (refl, refl)
+  no_stay (Some y) there = absurd (cc)
+
+  pub restores_none : (after : List Resident) → is_some (stay_in x.act ys) ≡ false → after ≡ replaced_if (resident_at_restore xs) (stay_in x.act ys) ys
+      → d.outcome ≡ plain (Said.Idle IdleWhy.EmptyLink) → out_of d.emit ≡ [] → Does d (tile_with t after o) (take_restore h old a x xs old.current)
+  restores_none after there now said sent =
+      let w = no_stay (stay_in x.act ys) there in
+      subst (Does d (tile_with t after o)) (sym (restore_step ∙ w.0)) (
+      record { outcome = said; part = λ i. tile_with t ((now ∙ w.1) i) (no_current o none i); out = sent }
+      )

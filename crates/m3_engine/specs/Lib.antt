@@ -1,8 +1,16 @@
 pub mod EngineView
+pub mod IssueView
 pub mod MemoryView
+pub mod NextEvent
 pub mod OpenedParts
 pub mod OpeningInvariant
 pub mod PartsView
+pub mod ProgramTurn
 pub mod ReceiveRecordView
+pub mod ShownSeen
+pub mod SparesView
+pub mod StayTable
+pub mod StayView
 pub mod TileStepView
 pub mod TileView
+pub mod TurnView

@@ -1,19 +1,18 @@
 -- What a tile's code answers, as the local steps have it.
-use Rattle.std.specs.Prelude.{◌≡◌, ℕ, Bool, true, false, not, ◌==◌, [], ◌++◌, Option, Some, None, option_map}
+use Rattle.std.specs.Prelude.{◌≡◌, ℕ, Bool, true, false, not, ◌==◌, ◌++◌, Option, Some, None, option_map}
 use Rattle.m3_base.specs.declared.message.Message.{Message}
 use Rattle.m3_base.specs.declared.packet.Packet.{Packet}
 use Rattle.m3_base.specs.declared.event.Said.{Said}
-use Rattle.m3_base.specs.declared.event.Outcome.{Outcome}
-use Rattle.m3_base.specs.declared.event.IdleWhy.{IdleWhy}
 use Rattle.m3_base.specs.Ideal.Context.{Context}
 use Rattle.m3_base.specs.Ideal.Arrival.{Arrival}
 use Rattle.m3_base.specs.Ideal.Flights.{name_of}
 use Rattle.m3_core.specs.declared.issued.Issued.{Issued}
-use Rattle.m3_engine.specs.declared.shown.Shown.{Shown}
+use Rattle.m3_engine.specs.declared.fetched_message.Shown.{Shown}
 use Rattle.m3_kernel.specs.ParcelView.{out_of}
 use Rattle.m3_engine.specs.declared.tile.TileDid.{TileDid}
 use Rattle.m3_model.specs.Config.Site.{Site}
 use Rattle.m3_model.specs.LocalStep.{LocalResult, data_out, answer_tile, closed_out}
+use Rattle.m3_model.specs.Tile.Step.{arrive_named}
 use Rattle.m3_base.specs.ExtentFiles.ScriptEntries.{plain_outcome}
 
 abbrev pub shown_of : Message → Shown
@@ -49,7 +48,10 @@ pub record Does {S : Type 0} (did : TileDid) (now : S) (deed : LocalResult S) : 
   pub part : now ≡ deed.part
   pub out : out_of did.emit ≡ deed.out
 
--- what came of a packet at a context, or that it was dropped
-abbrev pub Lands : Site → TileDid → Context → Context → Option Arrival → Type 0
-Lands h d old new None = (d.outcome ≡ plain_outcome (Said.Idle IdleWhy.EmptyLink)) × (out_of d.emit ≡ []) × (new ≡ old)
-Lands h d old new (Some r) = (d.outcome ≡ plain_outcome r.said) × (out_of d.emit ≡ data_out (answer_tile h r.answer) r.answer ++ closed_out r.freed) × (new ≡ r.context)
+-- what came of a packet that arrived at a context
+pub record Lands (h : Site) (d : TileDid) (old new : Context) (p : Packet) : Type 0 where
+  pub arrival : Arrival
+  pub arrives : arrive_named h old p ≡ Some arrival
+  pub outcome : d.outcome ≡ plain_outcome arrival.said
+  pub out : out_of d.emit ≡ data_out (answer_tile h arrival.answer) arrival.answer ++ closed_out arrival.freed
+  pub context : new ≡ arrival.context

@@ -1,95 +1,80 @@
 //! What the driver does next.
 
-ghost use Rattle.std.specs.Prelude.{◌≡◌};
-ghost use Rattle.m3_base.specs.Placement.Driver.{least_of};
-ghost use Rattle.m3_kernel.specs.ActivityView.{seat_value, seats_of};
-ghost use Rattle.m3_trace.specs.DriverOfMachine.{next_take_at, next_take_on, can_tend, least_tend, next_of};
+ghost use Rattle.std.specs.Prelude.{◌≡◌, length};
+ghost use Rattle.m3_trace.specs.DriverOfMachine.{next_take_on};
+ghost use Rattle.m3_model.specs.Kernel.Driver.{next_switch};
+ghost use Rattle.m3_engine.specs.NextEvent.{first_turn, next_of_kernel, next_of_parts};
+ghost use Rattle.m3_engine.specs.PartsView.{HasTiles};
 
+use crate::parts::Parts;
+use crate::tile::TilePart;
 use m3_base::event::Event;
-use m3_base::ids::{ActId, TileId};
+use m3_base::ids::TileId;
+use m3_base::order::Order;
 use m3_kernel::kernel::Kernel;
-use m3_kernel::seat::{Place, Seat};
+use m3_kernel::site::Site;
 use m3_link::wires::Wires;
-
-/// The take at this tile from the least sending tile, among links that aren't empty.
-fn next_take_at(wires: &Wires, to: TileId) -> Option<Event>
-    ensures { result ≡ next_take_at wires.now.lists to }
-{
-    for from in 0..16u8 {
-        let from = TileId::new(from);
-        if !wires.is_empty(from, to) {
-            return Some(Event::Take { to, from });
-        }
-    }
-    None
-}
 
 /// The take at the least receiving tile, then from the least sending tile, among links that aren't empty.
 fn next_take(wires: &Wires) -> Option<Event>
     ensures { result ≡ next_take_on wires.now.lists }
 {
-    for to in 0..16u8 {
-        let next = next_take_at(wires, TileId::new(to));
-        if next.is_some() {
-            return next;
+    match wires.first() {
+        Some((to, from)) => Some(Event::Take { to, from }),
+        None => None,
+    }
+}
+
+/// The turn of the least tile's current activity that isn't idle.
+fn next_turn(site: &Site, tiles: &[TilePart]) -> Option<Event>
+    requires { length tiles.now ≡ 16 }
+    ensures { result ≡ first_turn site.now tiles.now }
+{
+    for tile in 0..16u8 {
+        if let Some(event) = tiles[usize::from(tile)].next_turn(site) {
+            return Some(event);
         }
     }
     None
 }
 
-/// Whether the seat's activity is away, and something is held for it.
-fn can_tend(seat: &Seat) -> bool
-    ensures { result ≡ can_tend (seat_value seat.now) }
+/// The switch of the least tile that wants one.
+fn next_switch(kernel: &Kernel) -> Option<Event>
+    ensures { result ≡ next_switch kernel.now.site kernel.now.kernel }
 {
-    match seat.place() {
-        Place::Placed => false,
-        Place::Leaving => false,
-        _ => !seat.hold().is_empty(),
+    match kernel.wanted() {
+        Some(order) => Some(Event::Order(order)),
+        None => None,
     }
 }
 
-fn least_of(least: Option<ActId>, act: ActId) -> ActId
-    ensures { result ≡ least_of least act }
+/// What the kernel makes next: the tend of the least activity that can be tended, then a close, where a grant is due,
+/// then the first of these orders, then the switch of the least tile that wants one.
+fn next_of_kernel(kernel: &Kernel, left: &[Order]) -> Option<Event>
+    ensures { result ≡ next_of_kernel kernel.now.site kernel.now.kernel left.now }
 {
-    match least {
-        None => act,
-        Some(least) => {
-            if least.number() < act.number() {
-                least
-            } else {
-                act
-            }
-        }
+    if let Some(act) = kernel.least_tend() {
+        return Some(Event::Tend(act));
+    }
+    if kernel.grants().next_close().is_some() {
+        return Some(Event::Close);
+    }
+    match left.first() {
+        Some(order) => Some(Event::Order(*order)),
+        None => next_switch(kernel),
     }
 }
 
-/// The least activity that can be tended.
-fn least_tend(seats: &[Seat]) -> Option<ActId>
-    ensures { result ≡ least_tend (seats_of seats.now) }
+/// A take, where a link isn't empty; then what the kernel makes next; then a turn.
+pub fn next_event(wires: &Wires, parts: &Parts, left: &[Order]) -> Option<Event>
+    requires { HasTiles parts.now }
+    ensures { result ≡ next_of_parts (next_take_on wires.now.lists) parts.now left.now }
 {
-    let mut least: Option<ActId> = None;
-    for seat in seats {
-        if can_tend(seat) {
-            least = Some(least_of(least, seat.act()));
-        }
-    }
-    least
-}
-
-/// The take at the least receiving tile, then from the least sending tile; then the tend of the least activity that is
-/// away and for which something is held; then a close, where a grant is due.
-pub fn next_event(wires: &Wires, kernel: &Kernel) -> Option<Event>
-    ensures { result ≡ next_of (next_take_on wires.now.lists) kernel.now.kernel }
-{
-    let take = next_take(wires);
-    if take.is_some() {
-        return take;
-    }
-    match least_tend(kernel.seats()) {
-        Some(act) => Some(Event::Tend(act)),
-        None => match kernel.grants().next_close() {
-            Some(_) => Some(Event::Close),
-            None => None,
+    match next_take(wires) {
+        Some(take) => Some(take),
+        None => match next_of_kernel(&parts.kernel, left) {
+            Some(event) => Some(event),
+            None => next_turn(parts.kernel.site(), parts.tiles.as_slice()),
         },
     }
 }

@@ -57,7 +57,12 @@ fn install(table: &mut Vec<Option<Context>>, act: ActId, ep: EpId, fresh: Fresh)
 
 /// The grant of this line, of which there are `count` before, stands at its holder's endpoint. It answers how many there
 /// are then.
-fn grant(setup: &Setup, table: &mut Vec<Option<Context>>, count: u16, line: &GrantLine) -> u16
+fn install_grant(
+    setup: &Setup,
+    table: &mut Vec<Option<Context>>,
+    count: u16,
+    line: &GrantLine,
+) -> u16
     requires { AtLine setup.now table.old.items count (SetupLine.Grant line.now) }
     ensures { (left : List SetupLine) → Progress setup.now table.old.items count (SetupLine.Grant
         line.now ∷ left) → Progress setup.now table.new.items result left }
@@ -73,7 +78,7 @@ fn grant(setup: &Setup, table: &mut Vec<Option<Context>>, count: u16, line: &Gra
 }
 
 /// A line of the setup, before which there are `count` grants. It answers how many there are then.
-fn read(
+fn apply_line(
     alloc: Global,
     setup: &Setup,
     table: &mut Vec<Option<Context>>,
@@ -89,13 +94,13 @@ fn read(
             declare(alloc, table, *act)?;
             Ok(count)
         }
-        SetupLine::Grant(line) => Ok(grant(setup, table, count, line)),
+        SetupLine::Grant(line) => Ok(install_grant(setup, table, count, line)),
         _ => Ok(count),
     }
 }
 
 /// The contexts of the setup's activities at opening, by their numbers.
-pub fn contexts(alloc: Global, setup: &Setup) -> Result<Vec<Option<Context>>, AllocError>
+pub fn initial_contexts(alloc: Global, setup: &Setup) -> Result<Vec<Option<Context>>, AllocError>
     ensures valid { IfOk result (λ t. IsValid setup.now) }
     ensures contexts { IfOk result (λ t. HasContexts t.items (opening setup.now.memory setup.now.lines).contexts) }
     ensures low { IfOk result (λ t. (a : ℕ) (c : Context) → slice_index_or t.items a None ≡ Some c → HasBoundedCounters 0 c) }
@@ -103,7 +108,7 @@ pub fn contexts(alloc: Global, setup: &Setup) -> Result<Vec<Option<Context>>, Al
     let mut table = no_contexts(alloc)?;
     let mut count = 0;
     for line in setup.lines() {
-        count = read(alloc, setup, &mut table, count, line)?;
+        count = apply_line(alloc, setup, &mut table, count, line)?;
     }
     Ok(table)
 }
@@ -114,7 +119,8 @@ fn no_tiles(alloc: Global) -> Result<Vec<TilePart>, AllocError>
 {
     let mut tiles = Vec::new(alloc);
     for number in 0..16u8 {
-        tiles.push(TilePart::new(alloc, TileId::new(number)))?;
+        let tile = TilePart::new(alloc, TileId::new(number))?;
+        tiles.push(tile)?;
     }
     Ok(tiles)
 }

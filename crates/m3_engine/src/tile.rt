@@ -1,23 +1,20 @@
 //! A tile's part: its current activity, whose commands it issues and whose packets it takes.
 
-ghost use Rattle.std.specs.Prelude.{◌≡◌, ◌==◌, ◌∷◌, ◌++◌, [], List, IfOk, OnOk, OnErr, None, Some, is_some, option_copied};
-ghost use Rattle.std.specs.List.{list_any};
+mod take;
+mod turn;
+
+ghost use Rattle.std.specs.Prelude.{◌≡◌, ◌∷◌, [], IfOk, OnOk, OnErr, Some, option_copied};
 ghost use Rattle.m3_core.specs.Preconditions.{IsBufferFor};
-ghost use Rattle.m3_base.specs.Placement.Routing.{target};
-ghost use Rattle.m3_base.specs.Placement.Take.{is_here};
-ghost use Rattle.m3_kernel.specs.ArrivalView.{AtMostOne};
-ghost use Rattle.m3_model.specs.Parcel.{Heard};
-ghost use Rattle.m3_model.specs.Tile.State.{Tile};
 ghost use Rattle.m3_model.specs.LocalStep.{closed_out};
-ghost use Rattle.m3_model.specs.Tile.Step.{tile_do, new_out, act_in, resident_of, arrive_named, bounced, take_data, take_save, take_restore, tile_take};
-ghost use Rattle.m3_engine.specs.TileStepView.{said_issued, packet_issued, Lands, Does};
+ghost use Rattle.m3_model.specs.Tile.Step.{tile_do, new_out};
+ghost use Rattle.m3_engine.specs.TileStepView.{said_issued, packet_issued, Does};
 ghost use Rattle.m3_base.specs.ExtentFiles.ScriptEntries.{plain_outcome as plain};
 ghost use Rattle.m3_kernel.specs.ParcelView.{parcel_of, out_of};
 ghost use Rattle.m3_model.specs.Machine.{empty_tile};
-ghost use Rattle.m3_engine.specs.TileView.{CanIssue, runs, seated_with};
+ghost use Rattle.m3_engine.specs.TileView.{CanIssue, seated_with};
 
-use crate::returning::may_return;
-use crate::shown::{Shown, fetched, front};
+use crate::fetched_message::{Shown, fetched, front};
+use crate::stays::Stays;
 use m3_base::command::Command;
 use m3_base::event::{IdleWhy, Outcome, Said};
 use m3_base::ids::{ActId, GrantId, TileId};
@@ -26,7 +23,6 @@ use m3_base::payload::Payload;
 use m3_core::context::Context;
 use m3_core::issued::Issued;
 use m3_core::parcel::{Emit, Parcel};
-use m3_kernel::came::{Came, meet, target_of};
 use m3_kernel::site::Site;
 use std::alloc::{AllocError, Global};
 use std::marker::Model;
@@ -38,11 +34,11 @@ pub struct TileDid {
     pub emit: Option<Emit>,
 }
 
-/// A tile with the activities that have their home there, and the context of the one that runs.
+/// A tile with the stays of the activities that have their home there, and the context of the one that runs.
 #[derive(Drop)]
 pub struct TilePart {
     tile: TileId,
-    acts: Vec<ActId>,
+    stays: Stays,
     current: Option<Context>,
 }
 
@@ -105,7 +101,7 @@ fn buffer(alloc: Global, command: &Command) -> Result<Payload, AllocError>
 
 /// The packet, to its home: tile 1 for a read or a write, else the home of its activity.
 #[inline(always)]
-fn sent(site: &Site, packet: Packet) -> Option<Emit>
+pub fn outgoing_data(site: &Site, packet: Packet) -> Option<Emit>
     ensures { out_of result ≡ new_out site.now (Some packet) }
 {
     let to = site.tile_for(&packet);
@@ -115,7 +111,7 @@ fn sent(site: &Site, packet: Packet) -> Option<Emit>
 
 /// What is told of a command, where `front` is what a fetch takes.
 #[inline(always)]
-fn told(site: &Site, issued: Issued, front: Option<Shown>) -> TileDid
+pub fn issue_result(site: &Site, issued: Issued, front: Option<Shown>) -> TileDid
     ensures outcome { result.outcome ≡ plain (said_issued front issued) }
     ensures out { out_of result.emit ≡ new_out site.now (packet_issued issued) }
 {
@@ -124,16 +120,16 @@ fn told(site: &Site, issued: Issued, front: Option<Shown>) -> TileDid
         Issued::Acknowledged(None) => says(Said::Acknowledged(None), None),
         Issued::Acknowledged(Some(packet)) => {
             let id = packet.id();
-            says(Said::Acknowledged(Some(id)), sent(site, packet))
+            says(Said::Acknowledged(Some(id)), outgoing_data(site, packet))
         }
         Issued::Refused(why) => says(Said::Refused(why), None),
-        Issued::Flies(id, packet) => says(Said::Flying(id), sent(site, packet)),
+        Issued::Flies(id, packet) => says(Said::Flying(id), outgoing_data(site, packet)),
     }
 }
 
 /// The parcel, to the kernel.
 #[inline(always)]
-fn to_kernel(parcel: Parcel) -> Option<Emit>
+pub fn to_kernel(parcel: Parcel) -> Option<Emit>
     ensures { out_of result ≡ (0, parcel_of parcel) ∷ [] }
 {
     let to = TileId::new(0);
@@ -142,78 +138,33 @@ fn to_kernel(parcel: Parcel) -> Option<Emit>
 
 /// That a grant's endpoint became free, to the kernel.
 #[inline(always)]
-fn closed(grant: GrantId) -> Option<Emit>
+fn closed_notice(grant: GrantId) -> Option<Emit>
     ensures { out_of result ≡ closed_out (Some grant) }
 {
     to_kernel(Parcel::Closed(grant))
 }
 
 #[inline(always)]
-fn closed_if(grant: &Option<GrantId>) -> Option<Emit>
+pub fn closed_notice_if(grant: &Option<GrantId>) -> Option<Emit>
     ensures { out_of result ≡ closed_out grant.now }
 {
     match grant {
         None => None,
-        Some(grant) => closed(*grant),
+        Some(grant) => closed_notice(*grant),
     }
-}
-
-/// What is told of a packet that came, and what goes out: its answer, or that an endpoint became free.
-#[inline(always)]
-fn lands(site: &Site, came: Came) -> TileDid
-    requires { AtMostOne came.answer came.freed }
-    ensures outcome { result.outcome ≡ plain came.said }
-    ensures out { out_of result.emit ≡ new_out site.now came.answer ++ closed_out came.freed }
-{
-    let Came {
-        said,
-        answer,
-        freed,
-    } = came;
-    match answer {
-        Some(answer) => says(said, sent(site, answer)),
-        None => says(said, closed_if(&freed)),
-    }
-}
-
-/// A packet for this context arrives where it fits and names activities of the setup alone, and is dropped else.
-#[inline(always)]
-fn land(site: &Site, context: &mut Context, packet: Packet) -> TileDid
-    ensures { Lands site.now result context.old context.new (arrive_named site.now context.old packet) }
-{
-    if !site.names(&packet) || !context.fits(&packet) {
-        return is_idle(IdleWhy::EmptyLink);
-    }
-    lands(site, meet(context, packet))
-}
-
-/// Data for another activity goes to the kernel. Data for none, a read or a write, is dropped.
-#[inline(always)]
-fn bounced(packet: Packet) -> TileDid
-    ensures { (t : Tile) → Does result t (bounced t packet (target packet)) }
-{
-    if target_of(&packet).is_none() {
-        return is_idle(IdleWhy::EmptyLink);
-    }
-    says(Said::Bounced(packet.id()), to_kernel(Parcel::Data(packet)))
-}
-
-fn is_among(acts: &[ActId], act: ActId) -> bool
-    ensures { result ≡ list_any (λ a. a == act) acts.now }
-{
-    acts.iter().any(|other| other.number() == act.number())
 }
 
 impl TilePart {
     /// A tile without activities.
-    pub fn new(alloc: Global, tile: TileId) -> TilePart
-        ensures { result ≡ empty_tile tile }
+    pub fn new(alloc: Global, tile: TileId) -> Result<TilePart, AllocError>
+        ensures { IfOk result (λ t. t ≡ empty_tile tile) }
     {
-        TilePart {
+        let stays = Stays::new(alloc)?;
+        Ok(TilePart {
             tile,
-            acts: Vec::new(alloc),
+            stays,
             current: None,
-        }
+        })
     }
 
     /// One more activity has its home here. It runs, with this context, where it is the first.
@@ -221,7 +172,7 @@ impl TilePart {
         ensures ok { OnOk result (self.new ≡ seated_with act context self.old) }
         ensures err { OnErr result (self.new ≡ self.old) }
     {
-        self.acts.push(act)?;
+        self.stays.add(act)?;
         if self.current.is_none() {
             self.current = context;
         }
@@ -260,103 +211,8 @@ impl TilePart {
                 }
                 let front = front(alloc, context, &command)?;
                 let buffer = buffer(alloc, &command)?;
-                Ok(told(site, context.issue(command, buffer), front))
+                Ok(issue_result(site, context.issue(command, buffer), front))
             }
-        }
-    }
-
-    /// Whether the packet is for the current activity.
-    #[inline(always)]
-    fn is_for(&self, packet: &Packet) -> bool
-        ensures { result ≡ is_here (target packet.now) (act_in self.now.current) }
-    {
-        match (&self.current, target_of(packet)) {
-            (Some(context), Some(target)) => context.act().number() == target,
-            _ => false,
-        }
-    }
-
-    /// Whether this activity is the current one.
-    #[inline(always)]
-    fn runs(&self, act: ActId) -> bool
-        ensures { result ≡ runs act self.now.current }
-    {
-        match &self.current {
-            None => false,
-            Some(context) => context.act() == act,
-        }
-    }
-
-    /// Whether this activity has its home here.
-    fn houses(&self, act: ActId) -> bool
-        ensures { result ≡ is_some (resident_of act self.now) }
-    {
-        is_among(self.acts.as_slice(), act)
-    }
-
-    /// The current activity leaves with its whole context, where it is this one.
-    fn save(&mut self, act: ActId) -> TileDid
-        ensures { Does result self.new (take_save self.old act self.old.current) }
-    {
-        if !self.runs(act) {
-            return is_idle(IdleWhy::EmptyLink);
-        }
-        match self.current.take() {
-            None => unreachable!(),
-            Some(context) => {
-                let saved = Parcel::Saved {
-                    act: act,
-                    context,
-                    waiting: false,
-                    ended: false,
-                };
-                says(Said::Saving(act), to_kernel(saved))
-            }
-        }
-    }
-
-    /// This activity runs here with its context, where nobody runs, it has its home here, the context is its own, and the
-    /// context may come back.
-    fn restore(&mut self, site: &Site, act: ActId, context: Context) -> TileDid
-        ensures { (heard : List Heard) → Does result self.new (take_restore site.now self.old act
-            context heard self.old.current) }
-    {
-        let owner = context.act();
-        if self.current.is_some() || !may_return(site, act, &context) || !self.houses(owner) {
-            return is_idle(IdleWhy::EmptyLink);
-        }
-        self.current = Some(context);
-        says(Said::Current(owner), None)
-    }
-
-    /// The tile takes a parcel. Data goes as `take_data` says. A Save of the current activity sends its context to the
-    /// kernel. A Restore comes where nobody runs, its context is of its activity, its activity has its home here, its
-    /// context names activities of the setup alone, and its next number and next tokens are at most 2,097,153. Anything
-    /// else is dropped, as if the link were empty. It takes no memory.
-    pub fn take(&mut self, site: &Site, parcel: Parcel) -> TileDid
-        ensures { Does result self.new (tile_take site.now self.old (parcel_of parcel)) }
-    {
-        match parcel {
-            Parcel::Data(packet) => self.take_data(site, packet),
-            Parcel::Save(act) => self.save(act),
-            Parcel::Restore { act, context, .. } => self.restore(site, act, context),
-            _ => is_idle(IdleWhy::EmptyLink),
-        }
-    }
-
-    /// The tile takes data. Data for its current activity arrives there where it fits and names activities of the setup
-    /// alone, and is dropped else, as if the link were empty. Data for another activity bounces to the kernel. A read or
-    /// a write is for none, and is dropped. It takes no memory.
-    #[inline(always)]
-    pub fn take_data(&mut self, site: &Site, packet: Packet) -> TileDid
-        ensures { Does result self.new (take_data site.now self.old packet) }
-    {
-        if !self.is_for(&packet) {
-            return bounced(packet);
-        }
-        match &mut self.current {
-            None => unreachable!(),
-            Some(context) => land(site, context, packet),
         }
     }
 }

@@ -39,8 +39,8 @@ returns-in-Ok-clause-ok c =
     let front : first (list_at ls k) ≡ Some c.in-Some.parcel = ap (λ l. first (list_at l k)) (sym c.reserve_from.ensures.lists) ∙ sym c.take.ensures.answer ∙ c.in-Some.is in
     let sent : parcels_of c.send.new.wires.lists ≡ out_links c.args.to out (parcels_of (with_popped ls k)) =
     c.send.ensures.lists ∙ ap (λ l. out_links c.args.to out (parcels_of l)) (c.take.ensures.lists ∙ ap (λ l. with_popped l k) c.reserve_from.ensures.lists) in
-    subst (λ (e : EngineAt). Makes e (Event.Take c.args.to c.args.from) c.send.result (engine_at (record { parts = c.take-in-Some.new.self; wires = c.send.new.wires }))) c.self.view_is (
-    subst (λ (o : Outcome). Makes (engine_at c.self.inside) (Event.Take c.args.to c.args.from) o (engine_at (record { parts = c.take-in-Some.new.self; wires = c.send.new.wires }))) (sym c.send.ensures.outcome) (
+    subst (λ (e : EngineAt). Makes e (Event.Take c.args.to c.args.from) c.send.result (engine_at (record { parts = c.take-in-Some.new.self; wires = c.send.new.wires; spares = c.self.inside.spares }))) c.self.view_is (
+    subst (λ (o : Outcome). Makes (engine_at c.self.inside) (Event.Take c.args.to c.args.from) o (engine_at (record { parts = c.take-in-Some.new.self; wires = c.send.new.wires; spares = c.self.inside.spares }))) (sym c.send.ensures.outcome) (
     takes p ls c.args.to c.args.from c.in-Some.parcel front (parts_of c.take-in-Some.new.self) c.send.new.wires.lists c.in-Ok.done (c.in-Ok.ensures.ok c.args.from) sent
     )
     )

@@ -1,4 +1,4 @@
-use Rattle.std.proofs.Common.{sym, subst}
+use Rattle.std.proofs.Common.{subst}
 use Rattle.m3_base.specs.declared.event.Event.{Event}
 use Rattle.m3_model.specs.Events.{IsOfSetup}
 use Rattle.m3_engine.specs.PartsView.{parts_of}

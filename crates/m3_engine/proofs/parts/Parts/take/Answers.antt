@@ -11,8 +11,8 @@ use Rattle.m3_engine.specs.PartsView.{parts_of, part_of, DoesAt}
 use Rattle.m3_engine.proofs.PartStep.{tile_at, tile_there, read_tile}
 use Rattle.m3_engine.proofs.parts.Parts.take.Goals as goal
 
-pub returns-clause-ok : goal.returns-clause-ok
-returns-clause-ok c from =
+pub returns-in-Ok-clause-ok : goal.returns-in-Ok-clause-ok
+returns-in-Ok-clause-ok c from =
     let p = parts_of c.args.self.now in
     let h = c.args.self.now.kernel.site in
     let q = parcel_of c.args.parcel in
@@ -22,6 +22,6 @@ returns-clause-ok c from =
     let read = read_tile p c.from-at.result c.args.to c.index_mut.result.now here within c.index_mut.ensures.value in
     let step : part_step h (part_of c.args.to p) (Event.Take c.args.to from) None (Some q) ≡ Some (of_tile (tile_take h c.index_mut.result.now q)) =
     ap (λ (x : Part). part_step h x (Event.Take c.args.to from) None (Some q)) (tile_there p c.args.to high ∙ ap (λ x. Tile_part x) (sym read)) in
-    let does = subst (λ (x : Site). Does c.take-2.result c.take-2.new.self (tile_take x c.index_mut.result.now q)) c.site-2.ensures c.take-2.ensures in
-    let at = tile_at p c.from-at.result c.take-2.new.self c.args.to c.take-2.result (tile_take h c.index_mut.result.now q) (part_step h (part_of c.args.to p) (Event.Take c.args.to from) None (Some q)) here step does in
-    subst (λ (d : Done). DoesAt c.args.to p (record { site = h; kernel = p.kernel; memory = p.memory; tiles = set p.tiles c.from-at.result c.take-2.new.self }) d (part_step h (part_of c.args.to p) (Event.Take c.args.to from) None (Some q))) (sym c.done_by-2.ensures) at
+    let does = subst (λ (x : Site). Does c.in-Ok.did c.take-2.new.self (tile_take x c.index_mut.result.now q)) c.site-2.ensures c.in-Ok.ensures.ok in
+    let at = tile_at p c.from-at.result c.take-2.new.self c.args.to c.in-Ok.did (tile_take h c.index_mut.result.now q) (part_step h (part_of c.args.to p) (Event.Take c.args.to from) None (Some q)) here step does in
+    subst (λ (d : Done). DoesAt c.args.to p (record { site = h; kernel = p.kernel; memory = p.memory; tiles = set p.tiles c.from-at.result c.take-2.new.self }) d (part_step h (part_of c.args.to p) (Event.Take c.args.to from) None (Some q))) (sym c.done_by-in-Ok.ensures) at
