@@ -4,6 +4,7 @@ use Rattle.std.specs.Prelude.{not, ◌&&◌, if◌then◌else◌}
 use Rattle.std.proofs.lemmas.Bool.Decides.{nat_tests}
 use Rattle.m3_base.specs.declared.journal.AuditLine.{AuditLine}
 use Rattle.m3_base.specs.declared.event.Event.{Event}
+use Rattle.m3_base.specs.declared.order.Order.{Order}
 use Rattle.m3_base.specs.declared.packet.Fresh.{Fresh}
 use Rattle.m3_base.specs.declared.packet.Packet.{Packet}
 use Rattle.m3_base.specs.Ideal.Context.{Context}
@@ -141,7 +142,7 @@ module _ (h : Site) (m : Machine) (kept : MachineInvariant h m) where
       ap (λ n. AuditLine.Flights n ∷ []) (let z : min most (length ps) ≡ length (ideal_of m).flights = omega arith in z)
 
   -- the lines of a kept machine with so few flights that they are counted
-  pub audited : (tiles : ℕ) (next : Option Event) → length (ideal_of m).flights ≤ most → next ≡ driver.next_event (ideal_of m) (placement_of h m) []
-      → live_lines cs ps m.kernel.grants ++ tile_lines tiles m.tiles ++ (AuditLine.Flights (min most (length ps)) ∷ []) ++ AuditLine.Quiet (is_none next) ∷ [] ≡ audit_lines tiles (ideal_of m) (placement_of h m) []
-  audited tiles next le quiet k =
+  pub audited : (left : List Order) (tiles : ℕ) (next : Option Event) → length (ideal_of m).flights ≤ most → next ≡ driver.next_event (ideal_of m) (placement_of h m) left
+      → live_lines cs ps m.kernel.grants ++ tile_lines tiles m.tiles ++ (AuditLine.Flights (min most (length ps)) ∷ []) ++ AuditLine.Quiet (is_none next) ∷ [] ≡ audit_lines tiles (ideal_of m) (placement_of h m) left
+  audited left tiles next le quiet k =
       credits_kept k ++ sym (tile_lines_are tiles h m) k ++ flights_kept le k ++ AuditLine.Quiet (is_none (quiet k)) ∷ []

@@ -1,5 +1,5 @@
 -- The activities that a setup declares are those of its site.
-use Rattle.std.proofs.Common.{◌≡◌, ℕ, true, false, Option, Some, None, refl, subst}
+use Rattle.std.proofs.Common.{◌≡◌, ℕ, true, false, Option, Some, None, refl, ap, subst}
 use Rattle.std.specs.Prelude.{is_some, is_none}
 use Rattle.m3_base.specs.Setup.Rules.{SetupValue, IsValid, facts_of, home_at}
 use Rattle.m3_model.specs.Config.Site.{Home, home_of}
@@ -16,3 +16,11 @@ home_some (Some x) r same e = refl
 pub declared_home : (s : SetupValue) → IsValid s → (a : ℕ) → is_none (home_at (facts_of s).homes a) ≡ false → is_home (opened_site s) a ≡ true
 declared_home s v a e =
     home_some (home_of a (opened_site s)) (home_at (facts_of s).homes a) ((valid_tiles s v).same a) e
+
+tile_some : (o : Option Home) (r : Option ℕ) → r ≡ home_tile o → is_some o ≡ true → is_none r ≡ false
+tile_some None r same e = absurd (cc)
+tile_some (Some x) r same e = ap is_none same
+
+-- and an activity of its site is one that the setup declares
+pub home_declared : (s : SetupValue) → IsValid s → (a : ℕ) → is_home (opened_site s) a ≡ true → is_none (home_at (facts_of s).homes a) ≡ false
+home_declared s v a e = tile_some (home_of a (opened_site s)) (home_at (facts_of s).homes a) ((valid_tiles s v).same a) e

@@ -1,4 +1,13 @@
 pub mod Traversal
 pub mod AuditView
 pub mod CreditCounts
+pub mod EngineTurns
+pub mod EventNames
+pub mod MachineStep
 pub mod MachineView
+pub mod OrdersLeft
+pub mod OrdersView
+pub mod ProgramCalls
+pub mod ProgramTable
+pub mod RecorderEntries
+pub mod RecorderView

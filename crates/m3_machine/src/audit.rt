@@ -12,11 +12,11 @@ ghost use Rattle.m3_trace.specs.DriverOfMachine.{tile_lines};
 
 use crate::context_table::ContextTable;
 use crate::credit_counts::{CreditCounter, CreditCounts};
-use m3_engine::tile::TilePart;
 use crate::traversal::visit_all;
 use m3_base::ids::{GrantId, TileId};
 use m3_base::journal::AuditLine;
 use m3_base::packet::Fresh;
+use m3_engine::tile::TilePart;
 use m3_grants::grants::Grants;
 use m3_kernel::seat::Seat;
 use m3_link::wires::Wires;

@@ -9,10 +9,10 @@ ghost use Rattle.m3_link.specs.LinksView.{lists_in};
 ghost use Rattle.m3_model.specs.Abstraction.{flat_map, flat_links, tile_contexts, entry_contexts, held_by, contexts_in, packets_in};
 ghost use Rattle.m3_machine.specs.Traversal.{Composes, contexts_of, packets_of};
 
-use m3_engine::tile::TilePart;
 use m3_base::packet::Packet;
 use m3_core::context::Context;
 use m3_core::parcel::Parcel;
+use m3_engine::tile::TilePart;
 use m3_kernel::seat::Seat;
 use m3_link::wires::Wires;
 use std::collections::VecDeque;
