@@ -14,6 +14,7 @@ mod packets;
 mod reading;
 mod setups;
 
+pub use audits::put_audit;
 pub use entries::put_entries;
 pub use journals::print;
 pub use line_texts::{audit_texts, entry_texts, setup_texts};

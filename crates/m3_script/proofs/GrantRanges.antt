@@ -4,7 +4,6 @@ use Rattle.std.specs.Str.{bytes_eq}
 use Rattle.std.specs.Prelude.{◌&&◌, if◌then◌else◌, nat_lt, nat_le, IfOk, ⊤}
 use Rattle.std.proofs.lemmas.Bool.Decides.{nat_tests}
 use Rattle.m3_base.specs.declared.event.Event.{Event}
-use Rattle.m3_base.specs.declared.order.FileLine.{FileLine}
 use Rattle.m3_base.specs.declared.order.GrantLine.{GrantLine}
 use Rattle.m3_base.specs.declared.order.Order.{Order}
 use Rattle.m3_base.specs.declared.setup_line.SetupLine.{SetupLine}
@@ -18,16 +17,13 @@ use Rattle.m3_text.specs.LineForm.{word, count_test, form_test}
 use Rattle.m3_script.specs.declared.line.Line.{Line}
 use Rattle.m3_script.specs.Events.{take_of, do_of, tend_of, turn_of, close_of, switch_of, revoke_of, order_of, file_of, event_of}
 use Rattle.m3_script.specs.Grants.{perm_of, recv_form, send_form, range_form, part_form, recv_of, send_of, range_of, part_of, grant_of}
-use Rattle.m3_script.specs.LineForms.{begins_event, line_of, opening_of}
+use Rattle.m3_script.specs.LineForms.{begins_event, begins_setup_line, line_of, opening_of}
 use Rattle.m3_base.specs.Limits.{HasRanges}
-use Rattle.m3_script.specs.Rules.{IsInRanges}
-use Rattle.m3_script.specs.Setups.{act_command_of, machine_of, act_of}
+use Rattle.m3_script.specs.Rules.{IsBuilt, IsInRanges, IsListed}
+use Rattle.m3_script.proofs.ListedLines.{other_word, setup_line_listed, if_then}
+use Rattle.m3_script.specs.Setups.{act_command_of, machine_of, setup_line_of}
 
 -- ---- facts of what a reading gives
-
-if_then : {A B : Type 0} (P : B → Type 0) (r : Result A Why) (f : A → Result B Why) → ((x : A) → r ≡ Ok x → IfOk (f x) P) → IfOk (r >>= f) P
-if_then P (Ok x) f k = k x refl
-if_then P (Err w) f k = tt
 
 value_is : (decimal low high : Bool) (v n : ℕ) → (if decimal && low && high then Ok v else Err why.Number) ≡ Ok n → ((low && high) ≡ true) × (v ≡ n)
 value_is true true true v n e = (refl, cc)
@@ -145,42 +141,42 @@ order_has ws = let w = word 0 ws in order_by (bytes_eq w (codes "switch")) (byte
 
 -- ---- events
 
-take_has : (ws : List (List ℕ)) → IfOk (take_of ws) IsInRanges
+-- the numbers of its grant are in their ranges, and it is built
+abbrev pub FitsForms : Event → Type 0
+FitsForms event = IsInRanges event × IsBuilt event
+
+take_has : (ws : List (List ℕ)) → IfOk (take_of ws) FitsForms
 unfolding take_of
 take_has ws =
-    if_then IsInRanges (count_test 2 ws) _ (λ count is_count.
-    if_then IsInRanges (number 0 15 (word 0 ws)) _ (λ to is_to.
-    if_then IsInRanges (number 0 15 (word 1 ws)) _ (λ from is_from. tt)))
+    if_then FitsForms (count_test 2 ws) _ (λ count is_count.
+    if_then FitsForms (number 0 15 (word 0 ws)) _ (λ to is_to.
+    if_then FitsForms (number 0 15 (word 1 ws)) _ (λ from is_from. (tt, tt))))
 
-do_has : (case : HexCase) (ws : List (List ℕ)) → IfOk (do_of case ws) IsInRanges
+do_has : (case : HexCase) (ws : List (List ℕ)) → IfOk (do_of case ws) FitsForms
 unfolding do_of
-do_has case ws = if_then IsInRanges (act_command_of case ws) _ (λ x is. tt)
+do_has case ws = if_then FitsForms (act_command_of case ws) _ (λ x is. (tt, tt))
 
-turn_has : (ws : List (List ℕ)) → IfOk (turn_of ws) IsInRanges
+turn_has : (ws : List (List ℕ)) → IfOk (turn_of ws) FitsForms
 unfolding turn_of
 turn_has ws =
-    if_then IsInRanges (count_test 1 ws) _ (λ count is_count.
-    if_then IsInRanges (number 0 63 (word 0 ws)) _ (λ act is_act. tt))
+    if_then FitsForms (count_test 1 ws) _ (λ count is_count.
+    if_then FitsForms (number 0 63 (word 0 ws)) _ (λ act is_act. (tt, tt)))
 
-tend_has : (ws : List (List ℕ)) → IfOk (tend_of ws) IsInRanges
+tend_has : (ws : List (List ℕ)) → IfOk (tend_of ws) FitsForms
 unfolding tend_of
 tend_has ws =
-    if_then IsInRanges (count_test 1 ws) _ (λ count is_count.
-    if_then IsInRanges (number 0 63 (word 0 ws)) _ (λ act is_act. tt))
+    if_then FitsForms (count_test 1 ws) _ (λ count is_count.
+    if_then FitsForms (number 0 63 (word 0 ws)) _ (λ act is_act. (tt, tt)))
 
-close_has : (ws : List (List ℕ)) → IfOk (close_of ws) IsInRanges
+close_has : (ws : List (List ℕ)) → IfOk (close_of ws) FitsForms
 unfolding close_of
-close_has ws = if_then IsInRanges (count_test 0 ws) _ (λ count is_count. tt)
+close_has ws = if_then FitsForms (count_test 0 ws) _ (λ count is_count. (tt, tt))
 
-filed_has : (r : Result FileLine Why) → IfOk (r >>= λ line. Ok (Event.File line)) IsInRanges
-filed_has (Ok line) = tt
-filed_has (Err w) = tt
-
-carried_has : (r : Result Order Why) → IfOk r OrderInRanges → IfOk (r >>= λ order. Ok (Event.Order order)) IsInRanges
-carried_has (Ok order) has = has
+carried_has : (r : Result Order Why) → IfOk r OrderInRanges → IfOk (r >>= λ order. Ok (Event.Order order)) FitsForms
+carried_has (Ok order) has = (has, tt)
 carried_has (Err w) has = tt
 
-event_by : (take do_ turn tend close file : Bool) (case : HexCase) (ws vs : List (List ℕ))
+event_by : (take do_ turn tend close file : Bool) (case : HexCase) (ws vs : List (List ℕ)) → file ≡ false
     → IfOk (
     if take then take_of vs
     else if do_ then do_of case vs
@@ -189,52 +185,62 @@ event_by : (take do_ turn tend close file : Bool) (case : HexCase) (ws vs : List
     else if close then close_of vs
     else if file then (file_of vs >>= λ line. Ok (Event.File line))
     else (order_of ws >>= λ order. Ok (Event.Order order))
-    ) IsInRanges
-event_by true do_ turn tend close file case ws vs = take_has vs
-event_by false true turn tend close file case ws vs = do_has case vs
-event_by false false true tend close file case ws vs = turn_has vs
-event_by false false false true close file case ws vs = tend_has vs
-event_by false false false false true file case ws vs = close_has vs
-event_by false false false false false true case ws vs = filed_has (file_of vs)
-event_by false false false false false false case ws vs = carried_has (order_of ws) (order_has ws)
+    ) FitsForms
+event_by true do_ turn tend close file case ws vs f = take_has vs
+event_by false true turn tend close file case ws vs f = do_has case vs
+event_by false false true tend close file case ws vs f = turn_has vs
+event_by false false false true close file case ws vs f = tend_has vs
+event_by false false false false true file case ws vs f = close_has vs
+event_by false false false false false true case ws vs f = absurd cc
+event_by false false false false false false case ws vs f = carried_has (order_of ws) (order_has ws)
 
-event_has : (case : HexCase) (ws : List (List ℕ)) → IfOk (event_of case ws) IsInRanges
+event_has : (case : HexCase) (ws : List (List ℕ)) → begins_event (word 0 ws) ≡ true → IfOk (event_of case ws) FitsForms
 unfolding event_of
-event_has case ws =
+event_has case ws begins =
     let w = word 0 ws in
     event_by (bytes_eq w (codes "take")) (bytes_eq w (codes "do")) (bytes_eq w (codes "turn")) (bytes_eq w (codes "tend")) (bytes_eq w (codes "close")) (bytes_eq w (codes "file"))
-    case ws (drop 1 ws)
+    case ws (drop 1 ws) (other_word begins_event w (codes "file") refl begins)
 
 -- ---- lines
 
+-- an event is built and has its numbers in their ranges, and a line of the setup gives no program of one line
 abbrev pub LineInRanges : Line → Type 0
-LineInRanges (Line.Event event) = IsInRanges event
+LineInRanges (Line.Event event) = FitsForms event
+LineInRanges (Line.Setup line) = IsListed line
 LineInRanges line = ⊤
 
-event_line_has : (r : Result Event Why) → IfOk r IsInRanges → IfOk (r >>= λ event. Ok (Line.Event event)) LineInRanges
+event_line_has : (r : Result Event Why) → IfOk r FitsForms → IfOk (r >>= λ event. Ok (Line.Event event)) LineInRanges
 event_line_has (Ok event) has = has
 event_line_has (Err w) has = tt
 
-opening_by : (machine act begin : Bool) (ws vs : List (List ℕ))
+setup_line_has : (r : Result SetupLine Why) → IfOk r IsListed → IfOk (r >>= λ line. Ok (Line.Setup line)) LineInRanges
+setup_line_has (Ok line) has = has
+setup_line_has (Err w) has = tt
+
+opening_by : (machine begin : Bool) (vs : List (List ℕ))
     → IfOk (
     if machine then (machine_of vs >>= λ m. Ok (Line.Machine m.0 m.1))
-    else if act then (act_of vs >>= λ line. Ok (Line.Setup line))
     else if begin then (count_test 0 vs >>= λ count. Ok Line.Begin)
-    else (grant_of ws >>= λ line. Ok (Line.Setup (SetupLine.Grant line)))
+    else Err why.Form
     ) LineInRanges
-opening_by true act begin ws vs = if_then LineInRanges (machine_of vs) _ (λ m is. tt)
-opening_by false true begin ws vs = if_then LineInRanges (act_of vs) _ (λ line is. tt)
-opening_by false false true ws vs = if_then LineInRanges (count_test 0 vs) _ (λ count is. tt)
-opening_by false false false ws vs = if_then LineInRanges (grant_of ws) _ (λ line is. tt)
+opening_by true begin vs = if_then LineInRanges (machine_of vs) _ (λ m is. tt)
+opening_by false true vs = if_then LineInRanges (count_test 0 vs) _ (λ count is. tt)
+opening_by false false vs = tt
 
 opening_has : (ws : List (List ℕ)) → IfOk (opening_of ws) LineInRanges
 unfolding opening_of
-opening_has ws = let w = word 0 ws in opening_by (bytes_eq w (codes "machine")) (bytes_eq w (codes "act")) (bytes_eq w (codes "begin")) ws (drop 1 ws)
+opening_has ws = let w = word 0 ws in opening_by (bytes_eq w (codes "machine")) (bytes_eq w (codes "begin")) (drop 1 ws)
 
-line_by : (event : Bool) (ws : List (List ℕ)) → IfOk (if event then (event_of HexCase.Either ws >>= λ e. Ok (Line.Event e)) else opening_of ws) LineInRanges
-line_by true ws = event_line_has (event_of HexCase.Either ws) (event_has HexCase.Either ws)
-line_by false ws = opening_has ws
+line_by : (event setup : Bool) (ws : List (List ℕ)) → begins_event (word 0 ws) ≡ event → begins_setup_line (word 0 ws) ≡ setup
+    → IfOk (
+    if event then (event_of HexCase.Either ws >>= λ e. Ok (Line.Event e))
+    else if setup then (setup_line_of HexCase.Either ws >>= λ line. Ok (Line.Setup line))
+    else opening_of ws
+    ) LineInRanges
+line_by true setup ws event begins = event_line_has (event_of HexCase.Either ws) (event_has HexCase.Either ws event)
+line_by false true ws event begins = setup_line_has (setup_line_of HexCase.Either ws) (setup_line_listed HexCase.Either ws begins)
+line_by false false ws event begins = opening_has ws
 
 pub line_has : (ws : List (List ℕ)) → IfOk (line_of ws) LineInRanges
 unfolding line_of
-line_has ws = line_by (begins_event (word 0 ws)) ws
+line_has ws = line_by (begins_event (word 0 ws)) (begins_setup_line (word 0 ws)) ws refl refl

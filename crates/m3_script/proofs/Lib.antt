@@ -6,6 +6,7 @@ pub mod SetupsAgain
 pub mod EventsAgain
 pub mod Built
 pub mod WordLimit
+pub mod ListedLines
 pub mod GrantRanges
 pub mod NamedEvents
 pub mod LineLoop

@@ -1,5 +1,5 @@
 -- The rules of scripts that the lines before decide, beside those that every setup keeps.
-use Rattle.std.specs.Prelude.{◌≡◌, ℕ, Bool, true, false, not, ◌&&◌, ◌||◌, nat_lt, nat_le, List, length, ⊤}
+use Rattle.std.specs.Prelude.{◌≡◌, ◌≤◌, ℕ, Bool, true, false, not, ◌&&◌, ◌||◌, nat_lt, nat_le, List, length, ⊤}
 use Rattle.std.specs.List.{All}
 use Rattle.m3_base.specs.declared.event.Event.{Event}
 use Rattle.m3_base.specs.declared.order.Order.{Order}
@@ -16,6 +16,17 @@ use Rattle.m3_script.specs.declared.script.Mode.{Mode}
 abbrev pub lacks_logic : ℕ → SetupLine → Bool
 lacks_logic boxes (SetupLine.Boxed a logic fuel) = nat_le boxes logic
 lacks_logic boxes line = false
+
+-- the line gives an activity no program of one line, as pipes and boxes are
+abbrev pub IsListed : SetupLine → Type 0
+IsListed (SetupLine.Writer a m s r chunk ring bytes) = ⊥
+IsListed (SetupLine.Reader a m r chunk ring fuel) = ⊥
+IsListed (SetupLine.Boxed a logic fuel) = ⊥
+IsListed line = ⊤
+
+-- all programs are lists of items
+abbrev pub AllListed : List SetupLine → Type 0
+AllListed lines = All IsListed lines
 
 -- ---- events
 
@@ -62,3 +73,22 @@ IsInRanges event = ⊤
 
 abbrev pub AllInRanges : List Event → Type 0
 AllInRanges events = All IsInRanges events
+
+-- the event is of a form that is built: all are, but those on files
+abbrev pub IsBuilt : Event → Type 0
+IsBuilt (Event.File line) = ⊥
+IsBuilt event = ⊤
+
+abbrev pub AllBuilt : List Event → Type 0
+AllBuilt events = All IsBuilt events
+
+-- ---- scripts for the driver
+
+abbrev pub IsOrder : Event → Type 0
+IsOrder (Event.Order order) = ⊤
+IsOrder event = ⊥
+
+-- but in a run, each event is an order, and there are at most 4,096
+abbrev pub AreOrders : Mode → List Event → Type 0
+AreOrders Mode.Run events = ⊤
+AreOrders mode events = All IsOrder events × (length events ≤ 4096)

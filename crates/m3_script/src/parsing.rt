@@ -1,7 +1,7 @@
 //! Bytes as a script.
 
 ghost use Rattle.std.specs.Prelude.{◌≡◌, ◌≤◌, length, IfOk};
-ghost use Rattle.m3_script.specs.Rules.{AllInRanges, AllNamed};
+ghost use Rattle.m3_script.specs.Rules.{AllBuilt, AllInRanges, AllListed, AllNamed, AreOrders};
 ghost use Rattle.m3_script.specs.ScriptText.{script_of, script_at_end};
 ghost use Rattle.m3_script.specs.ParserView.{Parses, refusal, state};
 
@@ -17,6 +17,9 @@ pub fn parse(alloc: Global, bytes: &[u8], mode: Mode, boxes: u32) -> Result<Scri
     ensures exact { Parses result (script_of mode boxes bytes.now) }
     ensures named { IfOk result (λ s. AllNamed s.setup s.events.items) }
     ensures ranges { IfOk result (λ s. AllInRanges s.events.items) }
+    ensures built { IfOk result (λ s. AllBuilt s.events.items) }
+    ensures orders { IfOk result (λ s. AreOrders mode s.events.items) }
+    ensures listed { IfOk result (λ s. AllListed s.setup.lines) }
 {
     let options = ParseOptions { mode, boxes };
     let mut parser = ParserState::Empty;

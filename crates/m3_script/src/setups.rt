@@ -70,7 +70,7 @@ fn machine_test(words: &[&[u8]]) -> Result<(), LineRefusal>
 
 /// `act A tile T`, by the words after the first.
 #[tactic(auto, unfolding(crate::specs::Setups::act_of))]
-pub fn read_act_line(words: &[&[u8]]) -> Result<SetupLine, LineRefusal>
+fn read_act_line(words: &[&[u8]]) -> Result<SetupLine, LineRefusal>
     ensures { Gives (λ l. l) result (act_of (texts words.now)) }
 {
     act_test(words)?;

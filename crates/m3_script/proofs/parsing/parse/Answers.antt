@@ -2,7 +2,7 @@ use Rattle.std.proofs.Common.{arith}
 use Rattle.m3_script.specs.ScriptText.{script_of}
 use Rattle.m3_script.specs.ParserView.{Parses, state}
 use Rattle.m3_script.proofs.LineLoop.{goes_on, is_refused, at_end}
-use Rattle.m3_script.proofs.NamedEvents.{named_of, ranges_of}
+use Rattle.m3_script.proofs.NamedEvents.{built_of, listed_of, named_of, orders_of, ranges_of}
 use Rattle.m3_script.proofs.parsing.parse.Goals as goal
 
 pub returns-in-Err : goal.returns-in-Err
@@ -11,6 +11,9 @@ returns-in-Err c = record {
       (script_of c.args.mode c.args.boxes c.args.bytes.now) c.cut_line.ensures.line c.in-Err.ensures c.loop-rest.invariant.reads);
   named = tt;
   ranges = tt;
+  built = tt;
+  orders = tt;
+  listed = tt;
 }
 
 pub loop-rest-preserved : goal.loop-rest-preserved
@@ -27,4 +30,7 @@ returns c =
       exact = exact;
       named = named_of c.args.mode c.args.boxes c.args.bytes.now c.script_at_end.result exact;
       ranges = ranges_of c.args.mode c.args.boxes c.args.bytes.now c.script_at_end.result exact;
+      built = built_of c.args.mode c.args.boxes c.args.bytes.now c.script_at_end.result exact;
+      orders = orders_of c.args.mode c.args.boxes c.args.bytes.now c.script_at_end.result exact;
+      listed = listed_of c.args.mode c.args.boxes c.args.bytes.now c.script_at_end.result exact;
     }

@@ -1,0 +1,4 @@
+pub mod ValidLoad
+pub mod Rounds
+pub mod Counts
+pub mod AddedLines

@@ -1,0 +1,3 @@
+pub mod ListProgramView
+pub mod ItemMoves
+pub mod SetupPrograms
