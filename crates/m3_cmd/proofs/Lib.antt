@@ -1,3 +1,11 @@
-pub mod Outputs
+pub mod BudgetCounts
+pub mod DriverMakes
 pub mod JournalFollowsScript
+pub mod ListCalls
+pub mod LoadPrograms
+pub mod MachineRuns
+pub mod Outputs
 pub mod PacketsShown
+pub mod ProgramActs
+pub mod ProgramTables
+pub mod OpenedMachines

@@ -1,21 +1,40 @@
 -- The forms of the command line.
-use Rattle.std.specs.Prelude.{◌≡◌, ℕ, List, [], ◌∷◌, map, Option, Some, None, codes, string_bytes, if◌then◌else◌}
+use Rattle.std.specs.Prelude.{◌≡◌, ℕ, List, [], ◌∷◌, map, Option, Some, None, Result, Ok, Err, codes, string_bytes, if◌then◌else◌, ⊤}
 use Rattle.std.specs.Str.{bytes_eq}
 use Rattle.std.specs.declared.string.String.{String}
 use Rattle.std.specs.declared.alloc.Global.{Global}
+use Rattle.m3_base.specs.Limits.{Within}
+use Rattle.m3_text.specs.declared.refusal.Why.{Why}
+use Rattle.m3_text.specs.Number.{number}
 use Rattle.m3_cmd.specs.declared.words.Form.{Form}
+use Rattle.m3_cmd.specs.declared.words.InputForm.{InputForm}
 
 -- the bytes of each word
 abbrev pub words_of : List (String Global) → List (List ℕ)
 words_of words = map string_bytes words
 
+abbrev pub load_with : Result ℕ Why → Option Form
+load_with (Ok n) = Some (Form.Load n)
+load_with (Err why) = None
+
+-- the load of so many rounds
+abbrev pub load_of : List ℕ → Option Form
+load_of word = load_with (number 1 500 word)
+
 -- the form that the words are; none where they are no form
 abbrev pub form_of : List (List ℕ) → Option Form
 form_of (word ∷ []) =
-    if bytes_eq word (codes "run") then Some Form.Run
-    else if bytes_eq word (codes "show") then Some Form.Show
+    if bytes_eq word (codes "run") then Some (Form.Input InputForm.Run)
+    else if bytes_eq word (codes "auto") then Some (Form.Input InputForm.Auto)
+    else if bytes_eq word (codes "show") then Some (Form.Input InputForm.Show)
     else None
+form_of (word ∷ rounds ∷ []) = if bytes_eq word (codes "load") then load_of rounds else None
 form_of words = None
+
+-- a load has 1 to 500 rounds
+abbrev pub HasRounds : Form → Type 0
+HasRounds (Form.Load n) = Within 1 500 n
+HasRounds form = ⊤
 
 -- the words are this form
 abbrev pub Asks : List (String Global) → Form → Type 0

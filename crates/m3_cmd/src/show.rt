@@ -7,7 +7,7 @@ ghost use Rattle.m3_cmd.specs.Statuses.{IsOneOf, most_bytes};
 ghost use Rattle.m3_cmd.specs.ShowContract.{IsNamed, IsNext, IsNone, IsRefusalLine, IsShowAnswer, IsShown, IsWhy, bad_byte_line, kind_word, packet_line, place_of, refused_after};
 ghost use Rattle.m3_cmd.specs.Writing.{WritesAll, WritesAtMost, WritesSome};
 
-use crate::run::write_output;
+use crate::top::write_output;
 use m3_base::packet::Packet;
 use m3_base::stream::Sink;
 use m3_journal::put_packet;

@@ -1,13 +1,14 @@
 use Rattle.std.proofs.Common.{refl, rules, sym, subst, inl, inr}
-use Rattle.m3_cmd.specs.OutputContract.{IsRunAnswer}
-use Rattle.m3_cmd.specs.Statuses.{IsJournalOf, IsNoScript, bad_script_line}
+use Rattle.m3_script.specs.declared.script.Mode.{Mode}
+use Rattle.m3_cmd.specs.RunContract.{IsJournalOf, IsNoScript, IsRunAnswer}
+use Rattle.m3_cmd.specs.Statuses.{bad_script_line}
 use Rattle.m3_cmd.proofs.Outputs.{output_all, output_some}
 use Rattle.m3_cmd.proofs.run.run_script.Goals as goal
 
 pub returns-in-Err-Bad-clause-prefix : goal.returns-in-Err-Bad-clause-prefix
 returns-in-Err-Bad-clause-prefix g c = λ four.
     output_some (IsRunAnswer c.args.bytes.now) 2 bad_script_line _ _
-    (inr (refl, (let none : IsNoScript c.args.bytes.now = search rules in none), refl))
+    (inr (refl, (let none : IsNoScript Mode.Run c.args.bytes.now = search rules in none), refl))
     (c.write_output.ensures.fault (λ e. cc) four).1
 
 pub returns-in-Ok-run_to_text-clause-output : goal.returns-in-Ok-run_to_text-clause-output

@@ -1,8 +1,8 @@
 use Rattle.std.proofs.Common.{◌≡◌, [], ◌∷◌, ◌++◌, append_assoc, length, subst, sym, ap, ◌∙◌, arith}
 use Rattle.std.specs.Vec.Iter.{into_iter_items}
-use Rattle.m3_cmd.specs.Statuses.{AreOfSetup}
+use Rattle.m3_cmd.specs.ListMachines.{AreMakeable}
 use Rattle.m3_cmd.proofs.JournalFollowsScript.{one_made, others_of}
-use Rattle.m3_cmd.proofs.run.step_all.Goals as goal
+use Rattle.m3_cmd.proofs.events.step_all.Goals as goal
 
 pub loop-event-preserved : goal.loop-event-preserved
 loop-event-preserved c =
@@ -13,5 +13,5 @@ loop-event-preserved c =
       append_assoc at.yielded (x ∷ []) left ∙ ap (λ l. at.yielded ++ l) (sym steps) ∙ at.invariant.0,
       (let was = at.invariant.1 in let gone = c.in-Some.ensures.steps.1 in let short = ap length steps in omega arith),
       one_made _ _ _ at.yielded x at.invariant.2 c.in_ok-step.ensures.ok,
-      others_of c.args.machine.now.setup x left (subst (AreOfSetup c.args.machine.now.setup) steps at.invariant.3),
+      others_of c.args.machine.now.setup x left (subst (AreMakeable c.args.machine.now.setup) steps at.invariant.3),
     )
