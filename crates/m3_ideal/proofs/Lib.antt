@@ -8,3 +8,7 @@ mod Tally
 mod Marking
 mod Changes
 mod Numbers
+mod IssueStep
+mod LandingStep
+mod GrantStep
+mod OpeningLines

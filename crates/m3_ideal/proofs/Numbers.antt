@@ -23,7 +23,7 @@ use Rattle.m3_ideal.proofs.Seats.{Reads, at_there}
 pub found_under : (a : ℕ) (c d : Context) (cs : List Context) → context_of a cs ≡ Some c → d.act ≡ c.act → context_of d.act cs ≡ Some c
 found_under a c d cs at k = subst (λ z. context_of z cs ≡ Some c) (act_found a c cs at ∙ sym k) at
 
-put_same : (c : Context) (cs : List Context) → context_of c.act cs ≡ Some c → put_context c cs ≡ cs
+pub put_same : (c : Context) (cs : List Context) → context_of c.act cs ≡ Some c → put_context c cs ≡ cs
 put_same c [] e = refl
 put_same c (x ∷ cs) e = by_case (same_act c.act x.act) e (put_same c cs)
   where
@@ -57,7 +57,7 @@ settles_kept {E = E} (Err x) o a cs ds number answer e h = contexts_stay o a cs 
 
 -- ---- numbers that stay
 
-next_put : (b : ℕ) (c d : Context) (cs : List Context) → context_of d.act cs ≡ Some c → d.next ≡ c.next → next_of (context_of b (put_context d cs)) ≡ next_of (context_of b cs)
+pub next_put : (b : ℕ) (c d : Context) (cs : List Context) → context_of d.act cs ≡ Some c → d.next ≡ c.next → next_of (context_of b (put_context d cs)) ≡ next_of (context_of b cs)
 next_put b c d cs at e = by_case (same_act b d.act) refl
   where
     by_case : (t : Bool) → same_act b d.act ≡ t → next_of (context_of b (put_context d cs)) ≡ next_of (context_of b cs)

@@ -1,3 +1,5 @@
--- What a flight carries, and the next numbers of contexts.
+-- What a flight carries, the next numbers of issuers, and what a step does.
 pub mod FlightParts
 pub mod NextNumbers
+pub mod StepOutcome
+pub mod Launch

@@ -22,3 +22,4 @@ pub mod GrantView
 pub mod Tally
 pub mod Making
 pub mod Ideal
+pub mod IdealView

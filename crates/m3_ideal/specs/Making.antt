@@ -15,3 +15,7 @@ Forms (Some f) line gs = (f.0 ≡ length gs + 1) × (form_in line gs ≡ Some f.
 -- of a grant of the setup
 abbrev pub first_form : GrantLine → List Grant → Option Fresh
 first_form line gs = form (length gs + 1) line (parent_in gs (parent_of line))
+
+abbrev pub line_in : Option Grant → Option GrantLine
+line_in None = None
+line_in (Some x) = Some x.line

@@ -1,6 +1,5 @@
-//! The parts of the ideal machine as code: contexts, flights and grants, each call by its definition, and what the
-//! entries of a journal say of its steps. Every activity has a context of its own; there is no tile, link, place or hold
-//! list.
+//! The ideal machine as code: its contexts, flights, grants and memory, each step by its definition, and what the entries
+//! of a journal say of its steps. Every activity has a context of its own; there is no tile, link, place or hold list.
 #![tactic(auto)]
 
 pub mod belongs;
@@ -11,6 +10,7 @@ pub mod flight;
 pub mod flights;
 pub mod flying;
 pub mod grants;
+pub mod ideal;
 pub mod issued;
 pub mod lane;
 pub mod letter;

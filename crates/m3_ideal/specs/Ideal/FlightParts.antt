@@ -26,3 +26,17 @@ bytes_in p = []
 abbrev pub answer_in : Packet → Option Answer
 answer_in (Packet.Answer id answer) = Some answer
 answer_in p = None
+
+-- ---- of a flight that may not be there
+
+abbrev pub landing_at : Option Packet → Option Landing
+landing_at None = None
+landing_at (Some p) = Some (landing_of p)
+
+abbrev pub letter_at : Option Packet → Option Message
+letter_at None = None
+letter_at (Some p) = letter_in p
+
+abbrev pub answer_at : Option Packet → Option Answer
+answer_at None = None
+answer_at (Some p) = answer_in p
