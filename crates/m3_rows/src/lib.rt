@@ -6,6 +6,8 @@ mod ends;
 #[cfg(test)]
 mod memory;
 #[cfg(test)]
+mod programs;
+#[cfg(test)]
 mod replies;
 #[cfg(test)]
 mod revoking;

@@ -9,9 +9,9 @@ use m3_base::setup::{Setup, SetupRefusal};
 use m3_base::setup_line::SetupLine;
 use m3_core::context::Context;
 use m3_core::parcel::{Emit, Parcel};
+use m3_engine::opening::initial_contexts;
 use m3_kernel::done::{Done, done_by_order};
 use m3_kernel::kernel::Kernel;
-use m3_engine::opening::contexts;
 use std::alloc::{AllocError, Global};
 
 /// Activities 0 and 1 have their home on tile 2, and 1 has a mailbox of two slots at endpoint 0.
@@ -35,12 +35,12 @@ fn setup(alloc: Global) -> Result<Setup, SetupRefusal> {
     Ok(setup)
 }
 
-/// An empty message of activity 0 to the mailbox of activity 1.
-fn message(alloc: Global) -> Parcel {
+/// An empty message of an activity to the mailbox of activity 1.
+fn message(alloc: Global, sender: ActId) -> Parcel {
     let header = Header {
         flags: 0,
         reply_ep: 255,
-        sender: ActId::new(0),
+        sender,
         lane: 0,
         length: 0,
         send: 2,
@@ -77,8 +77,14 @@ fn close() -> Parcel {
 enum Step {
     Switch(TileId, ActId),
     Message,
+    MessageOf(ActId),
     Close,
     Saved,
+    Rests {
+        act: ActId,
+        waiting: bool,
+        ended: bool,
+    },
     Yield(ActId),
     Save(ActId),
     Closed,
@@ -101,24 +107,38 @@ fn switch(kernel: &mut Kernel, tile: TileId, act: ActId) -> Result<Done, AllocEr
     }
 }
 
+/// The activity's tile has saved it, with a new context.
+fn saved(
+    alloc: Global,
+    kernel: &mut Kernel,
+    act: ActId,
+    waiting: bool,
+    ended: bool,
+) -> Result<Done, AllocError> {
+    let context = Context::new(alloc, act)?;
+    take(
+        kernel,
+        Parcel::Saved {
+            act,
+            context,
+            waiting,
+            ended,
+        },
+    )
+}
+
 fn run(alloc: Global, kernel: &mut Kernel, step: Step) -> Result<Done, AllocError> {
     match step {
         Step::Switch(tile, act) => switch(kernel, tile, act),
-        Step::Message => take(kernel, message(alloc)),
+        Step::Message => take(kernel, message(alloc, ActId::new(0))),
+        Step::MessageOf(sender) => take(kernel, message(alloc, sender)),
         Step::Close => take(kernel, close()),
-        Step::Saved => {
-            let act = ActId::new(0);
-            let context = Context::new(alloc, act)?;
-            take(
-                kernel,
-                Parcel::Saved {
-                    act,
-                    context,
-                    waiting: false,
-                    ended: false,
-                },
-            )
-        }
+        Step::Saved => saved(alloc, kernel, ActId::new(0), false, false),
+        Step::Rests {
+            act,
+            waiting,
+            ended,
+        } => saved(alloc, kernel, act, waiting, ended),
         Step::Yield(act) => take(kernel, Parcel::Yield(act)),
         Step::Save(act) => take(kernel, Parcel::Save(act)),
         Step::Closed => take(kernel, Parcel::Closed(GrantId::new(1))),
@@ -150,7 +170,7 @@ fn text(alloc: Global, done: &Done) -> Result<String, AllocError> {
 fn a_switch_waits_for_what_is_held(rt: HostRuntime) {
     let alloc = rt.alloc();
     let setup = setup(alloc).expect(&rt, "the lines are fine");
-    let mut table = contexts(alloc, &setup).expect(&rt, "memory");
+    let mut table = initial_contexts(alloc, &setup).expect(&rt, "memory");
     let mut kernel = Kernel::new(alloc, &setup, &mut table).expect(&rt, "memory");
     let zero = ActId::new(0);
     let one = ActId::new(1);
@@ -201,4 +221,86 @@ fn a_switch_waits_for_what_is_held(rt: HostRuntime) {
         assert_eq!(rt; told.as_str(), expected);
     }
     assert_eq!(rt; kernel.hold_len(zero), 1);
+}
+
+/// Activities 0, 1 and 2 have their home on tile 2, and a program each; 3 has its home on tile 3.
+fn programmed(alloc: Global) -> Result<Setup, SetupRefusal> {
+    let mut setup = setup(alloc)?;
+    setup.add(SetupLine::Act {
+        act: ActId::new(2),
+        tile: TileId::new(2),
+    })?;
+    setup.add(SetupLine::Act {
+        act: ActId::new(3),
+        tile: TileId::new(3),
+    })?;
+    for act in 0..3u8 {
+        setup.add(SetupLine::AwaitItem(ActId::new(act), EpId::new(0)))?;
+    }
+    Ok(setup)
+}
+
+/// The activity's tile has saved it, with this told of its program.
+fn rests(act: ActId, waiting: bool, ended: bool) -> Step {
+    Step::Rests {
+        act,
+        waiting,
+        ended,
+    }
+}
+
+/// Whom an order switches to; 99 for another order.
+fn switched_to(order: &Order) -> u8 {
+    match order {
+        Order::Switch { act, .. } => act.number(),
+        _ => 99,
+    }
+}
+
+/// Whom the least tile that wants a switch wants; 99 where none wants one.
+fn wanted(kernel: &Kernel) -> u8 {
+    match kernel.wanted() {
+        Some(order) => switched_to(&order),
+        None => 99,
+    }
+}
+
+/// A tile wants a switch once its Placed activity has yielded, while somebody is ready and nobody moves. Who rests at
+/// opening is ready; who is saved is so where it neither waits nor has ended; who waited is so when a packet is applied.
+#[test]
+fn a_yield_wants_the_front_of_the_ready_list(rt: HostRuntime) {
+    let alloc = rt.alloc();
+    let setup = programmed(alloc).expect(&rt, "the lines are fine");
+    let mut table = initial_contexts(alloc, &setup).expect(&rt, "memory");
+    let mut kernel = Kernel::new(alloc, &setup, &mut table).expect(&rt, "memory");
+    let zero = ActId::new(0);
+    let one = ActId::new(1);
+    let two = ActId::new(2);
+    let home = TileId::new(2);
+    assert_eq!(rt; wanted(&kernel), 99);
+    for (step, expected) in [
+        // 1 and 2 are ready from opening on
+        (Step::Yield(zero), 1),
+        (Step::Switch(home, one), 99),
+        (rests(zero, false, false), 99),
+        // 2 stands before 0, which joined at the back
+        (Step::Yield(one), 2),
+        (Step::Switch(home, two), 99),
+        // 1 waits, so it isn't ready until a message lands
+        (rests(one, true, false), 99),
+        (Step::Yield(two), 0),
+        (Step::MessageOf(ActId::new(3)), 0),
+        (Step::Tend(one), 0),
+        (Step::Switch(home, zero), 99),
+        // 2 has ended
+        (rests(two, false, true), 99),
+        (Step::Yield(zero), 1),
+        (Step::Switch(home, one), 99),
+        (rests(zero, true, false), 99),
+        // nobody is ready
+        (Step::Yield(one), 99),
+    ] {
+        run(alloc, &mut kernel, step).expect(&rt, "memory");
+        assert_eq!(rt; wanted(&kernel), expected);
+    }
 }

@@ -8,9 +8,9 @@ use m3_base::packet::Perm;
 use m3_base::setup::{Setup, SetupRefusal};
 use m3_base::setup_line::SetupLine;
 use m3_core::parcel::{Emit, Parcel};
+use m3_engine::opening::initial_contexts;
 use m3_kernel::kernel::Kernel;
 use m3_kernel::order::{CloseSent, OrderRefusal, Ordered};
-use m3_engine::opening::contexts;
 use std::alloc::{AllocError, Global};
 
 /// A mailbox at endpoint 0 of activity 1.
@@ -187,7 +187,7 @@ fn run(alloc: Global, kernel: &mut Kernel, step: Step) -> Result<String, AllocEr
 fn orders_and_closes_are_carried_out(rt: HostRuntime) {
     let alloc = rt.alloc();
     let setup = setup(alloc).expect(&rt, "the lines are fine");
-    let mut table = contexts(alloc, &setup).expect(&rt, "memory");
+    let mut table = initial_contexts(alloc, &setup).expect(&rt, "memory");
     let mut kernel = Kernel::new(alloc, &setup, &mut table).expect(&rt, "memory");
     let (zero, one) = (ActId::new(0), ActId::new(1));
     let tile = TileId::new(2);

@@ -22,12 +22,20 @@ mod kernel_orders;
 #[cfg(test)]
 mod link;
 #[cfg(test)]
+mod load;
+#[cfg(test)]
 mod memory;
+#[cfg(test)]
+mod programs;
 #[cfg(test)]
 mod script;
 #[cfg(test)]
 mod script_forms;
 #[cfg(test)]
+mod script_programs;
+#[cfg(test)]
 mod script_readers;
+#[cfg(test)]
+mod stays;
 #[cfg(test)]
 mod wire;

@@ -35,3 +35,22 @@ fn parcels_leave_in_order(rt: HostRuntime) {
     }
     assert_eq!(rt; wires.flights(), 0);
 }
+
+/// The least receiving tile comes first, then the least sending tile, and a link that was emptied no more.
+#[test]
+fn the_least_link_comes_first(rt: HostRuntime) {
+    let alloc = rt.alloc();
+    let mut wires = Wires::new(alloc).expect(&rt, "memory");
+    assert!(rt; wires.first().is_none());
+    for (from, to) in [(0u8, 15u8), (3, 2), (15, 0), (2, 2), (0, 1)] {
+        let (from, to) = (TileId::new(from), TileId::new(to));
+        wires.reserve_from(from).expect(&rt, "memory");
+        wires.push(from, to, Parcel::Yield(ActId::new(4)));
+    }
+    for (from, to) in [(15u8, 0u8), (0, 1), (2, 2), (3, 2), (0, 15)] {
+        let first = wires.first().expect(&rt, "a parcel is there");
+        assert_eq!(rt; (first.1.number(), first.0.number()), (from, to));
+        let _front = wires.take(first.1, first.0);
+    }
+    assert!(rt; wires.first().is_none());
+}

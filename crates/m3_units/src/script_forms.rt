@@ -12,7 +12,8 @@ use std::alloc::{AllocError, Global};
 use std::process::Abort;
 
 // A range of 32 bytes is the first grant; the line to try is the fourth.
-const RANGED: &[u8] = b"machine tiles 4 memory 4096\nact 0 tile 2\nrange 0 1 at 64 len 32 perm r\n";
+pub const RANGED: &[u8] =
+    b"machine tiles 4 memory 4096\nact 0 tile 2\nrange 0 1 at 64 len 32 perm r\n";
 
 // The line to try is the fifth.
 const BEGUN: &[u8] =
@@ -22,7 +23,12 @@ const BEGUN: &[u8] =
 const SHARED: &[u8] =
     b"machine tiles 4 memory 4096\nact 0 tile 2\nact 1 tile 2\nact 63 tile 3\nbegin\n";
 
-fn joined(alloc: Global, front: &[u8], line: &[u8], back: &[u8]) -> Result<Vec<u8>, AllocError> {
+pub fn joined(
+    alloc: Global,
+    front: &[u8],
+    line: &[u8],
+    back: &[u8],
+) -> Result<Vec<u8>, AllocError> {
     let mut text = Vec::from_slice(alloc, front)?;
     text.extend_from_slice(line)?;
     text.extend_from_slice(back)?;
@@ -30,11 +36,11 @@ fn joined(alloc: Global, front: &[u8], line: &[u8], back: &[u8]) -> Result<Vec<u
 }
 
 /// Asserts that the script is read, or refused at this line for this cause.
-fn expect(rt: &impl Abort, alloc: Global, text: &[u8], line: u32, cause: Option<Why>) {
+pub fn expect(rt: &impl Abort, alloc: Global, text: &[u8], line: u32, cause: Option<Why>) {
     expect_in(rt, alloc, Mode::Run, text, line, cause);
 }
 
-fn expect_in(
+pub fn expect_in(
     rt: &impl Abort,
     alloc: Global,
     mode: Mode,
@@ -103,10 +109,7 @@ fn lines_of_memory_are_read_and_refused(rt: HostRuntime) -> Result<(), AllocErro
         ("part 0 2 at 0 len 1 perm r", Some(Why::Form)),
         ("part 0 2 of 1 at 0 len 1 perm r r", Some(Why::Form)),
         ("do 0 fetch 0", Some(Why::Place)),
-        ("quantum 8", Some(Why::Form)),
         ("files 1", Some(Why::Form)),
-        ("prog 0 fetch 0", Some(Why::Form)),
-        ("prog 0 await 0", Some(Why::Form)),
         (
             "writer 0 mem 0 send 1 reply 2 chunk 16 ring 4 00",
             Some(Why::Form),
@@ -196,7 +199,12 @@ fn switches_and_tends_are_read_and_refused(rt: HostRuntime) -> Result<(), AllocE
         ("tend 0 0", Some(Why::Form)),
         ("Tend 0", Some(Why::Form)),
         ("act 2 tile 2", Some(Why::Place)),
-        ("turn 0", Some(Why::Form)),
+        ("turn 0", Some(Why::Rule)),
+        ("turn 2", Some(Why::Rule)),
+        ("turn 64", Some(Why::Number)),
+        ("turn", Some(Why::Form)),
+        ("turn 0 0", Some(Why::Form)),
+        ("turn 0 fetch 0", Some(Why::Form)),
         ("file create a", Some(Why::Form)),
     ] {
         let text = joined(rt.alloc(), SHARED, line.as_bytes(), b"\n")?;
