@@ -32,7 +32,6 @@ kernel_nexts nexts news cs last number k n e =
 
 -- ---- making
 
-
 abbrev made_result : State → GrantLine → ℕ → Fresh → Option IdealResult
 made_result s line g f =
     Some (record {
@@ -125,9 +124,10 @@ stays_taken s g ep a ds h = by_context (context_of a s.contexts) refl h
   where
     by_context : (o : Option Context) → o ≡ context_of a s.contexts → AtKept o s.contexts ds (Is_freed false ep g) → (free_in s g ep o ≡ None) × (ds ≡ s.contexts)
     by_context None at k = absurd k
-    by_context (Some c) at k =
-        (ap (λ b. if b then freed_result s g (put_context (with_endpoint c ep Free) s.contexts) else None) k.3.1.0,
-        k.2 ∙ ap (λ z. put_context z s.contexts) k.3.1.1 ∙ put_same c s.contexts (found_under a c c s.contexts (sym at) refl))
+    by_context (Some c) at k = (
+      ap (λ b. if b then freed_result s g (put_context (with_endpoint c ep Free) s.contexts) else None) k.3.1.0,
+      k.2 ∙ ap (λ z. put_context z s.contexts) k.3.1.1 ∙ put_same c s.contexts (found_under a c c s.contexts (sym at) refl),
+    )
 
 pub not_freed : (s v : State) (b : Bool) (g a ep : ℕ) (line : GrantLine) (ds : List Context) → s ≡ v → b ≡ false → line_in (grant_in v.grants g) ≡ Some line → a ≡ holder line → ep ≡ holder_ep line
     → AtKept (context_of a s.contexts) s.contexts ds (Is_freed b ep g) → (closed_in v g (grant_in v.grants g) ≡ None) × (record s { contexts = ds } ≡ v)

@@ -200,9 +200,10 @@ stays_open s id to ep g ds h = by_context (context_of to s.contexts) refl h
   where
     by_context : (o : Option Context) → o ≡ context_of to s.contexts → AtKept o s.contexts ds (Closes None ep g) → (close_in s id ep g o ≡ None) × (ds ≡ s.contexts)
     by_context None at k = absurd k
-    by_context (Some c) at k =
-        (ap (λ b. if b then ending_result s id (if flies_at ep c then Starts_closing id g else Closes_endpoint id g) (put_context (with_endpoint c ep (closed_at (endpoint c ep))) s.contexts) else None) k.3.1.0,
-        k.2 ∙ ap (λ z. put_context z s.contexts) k.3.1.1 ∙ put_same c s.contexts (found_under to c c s.contexts (sym at) refl))
+    by_context (Some c) at k = (
+      ap (λ b. if b then ending_result s id (if flies_at ep c then Starts_closing id g else Closes_endpoint id g) (put_context (with_endpoint c ep (closed_at (endpoint c ep))) s.contexts) else None) k.3.1.0,
+      k.2 ∙ ap (λ z. put_context z s.contexts) k.3.1.1 ∙ put_same c s.contexts (found_under to c c s.contexts (sym at) refl),
+    )
 
 -- ---- messages
 
@@ -265,9 +266,10 @@ stays_unanswered E s id answer ds h = by_context (context_of id.issuer s.context
   where
     by_context : (o : Option Context) → o ≡ context_of id.issuer s.contexts → AtKept o s.contexts ds (SettlesBy {E = E} (Ok None) id.number answer) → (answer_in s id answer o ≡ None) × (ds ≡ s.contexts)
     by_context None at k = absurd k
-    by_context (Some c) at k =
-        (by_command (flying_at id.number c.flying) c k.0 k.3.1,
-        k.2 ∙ ap (λ z. put_context z s.contexts) (same (flying_at id.number c.flying) c k.0 k.3.1) ∙ put_same c s.contexts (found_under id.issuer c c s.contexts (sym at) refl))
+    by_context (Some c) at k = (
+      by_command (flying_at id.number c.flying) c k.0 k.3.1,
+      k.2 ∙ ap (λ z. put_context z s.contexts) (same (flying_at id.number c.flying) c k.0 k.3.1) ∙ put_same c s.contexts (found_under id.issuer c c s.contexts (sym at) refl),
+    )
       where
         by_command : (f : Option Flying) (x d : Context) → Settles {E = E} (Ok None) answer f x d → settle_in s id answer x f ≡ None
         by_command f x d w = ap (settle_in s id answer x) w.0
@@ -324,7 +326,7 @@ module _ (s v : State) (id : FlightId) (view : s ≡ v) where
       ∙ landed_step s id ep g m (context_of to s.contexts) ds name at
       ∙ ap (λ z. landing_result s (Lands_label id) ds (Packet.Answer id (if z then Answer.Sent else Answer.Replied))) (sym a)
       ∙ ap (λ z. Some (record { word = Lands_label id; state = record s { contexts = ds; flights = z } }))
-          (sym (y ∙ ap (change_flight (Packet.Answer id answer)) x ∙ changed_twice (Packet.Answer id Answer.Sent) (Packet.Answer id answer) s.flights refl))
+      (sym (y ∙ ap (change_flight (Packet.Answer id answer)) x ∙ changed_twice (Packet.Answer id Answer.Sent) (Packet.Answer id answer) s.flights refl))
 
   pub letter_refused : (r : Result (Option Refusal) Message) (to ep g : ℕ) (m : Message) (why : Refusal) (ds : List Context) (f1 f2 : List Packet) → r ≡ Ok (Some why)
       → landing_at (flight id v.flights) ≡ Some (Landing.Letter to ep g) → letter_at (flight id v.flights) ≡ Some m → AtKept (context_of to s.contexts) s.contexts ds (Lands r ep g m)
@@ -336,7 +338,7 @@ module _ (s v : State) (id : FlightId) (view : s ≡ v) where
       letter_lands to ep g m lands is
       ∙ refused_step s id ep g m (context_of to s.contexts) ds why name at
       ∙ ap (λ z. Some (record { word = Refusing id why; state = record s { contexts = ds; flights = z } }))
-          (sym (y ∙ ap (change_flight (Packet.Answer id (Answer.Refused why))) x ∙ changed_twice (Packet.Answer id Answer.Sent) (Packet.Answer id (Answer.Refused why)) s.flights refl))
+      (sym (y ∙ ap (change_flight (Packet.Answer id (Answer.Refused why))) x ∙ changed_twice (Packet.Answer id Answer.Sent) (Packet.Answer id (Answer.Refused why)) s.flights refl))
 
   pub letter_kept : (r : Result (Option Refusal) Message) (to ep g : ℕ) (m back : Message) (ds : List Context) (f1 f2 : List Packet) → r ≡ Err back
       → landing_at (flight id v.flights) ≡ Some (Landing.Letter to ep g) → letter_at (flight id v.flights) ≡ Some m → AtKept (context_of to s.contexts) s.contexts ds (Lands r ep g m)

@@ -101,8 +101,7 @@ impl Ideal {
             return Ok(());
         };
         if self.contexts.get(line.act()).is_some() {
-            self.contexts
-                .install(alloc, line.act(), line.ep(), &fresh)?;
+            self.contexts.install(alloc, line.act(), line.ep(), &fresh)?;
         }
         self.grants.push(*line, fresh)
     }

@@ -41,12 +41,7 @@ impl Ideal {
     }
 
     // A credit comes to an activity.
-    fn give(
-        &mut self,
-        id: FlightId,
-        to: ActId,
-        grant: GrantId,
-    ) -> Result<Option<Word>, AllocError>
+    fn give(&mut self, id: FlightId, to: ActId, grant: GrantId) -> Result<Option<Word>, AllocError>
         requires { landing_at (flight id self.old.flights) ≡ Some (Landing.Credit to grant) }
         ensures { Steps result (land_in self.old id (flight id self.old.flights)) self.old self.new }
     {
@@ -192,7 +187,9 @@ fn take_letter(flights: &mut Flights, id: FlightId) -> Option<Letter>
     ensures nexts { flights.new.nexts ≡ flights.old.nexts }
 {
     let answer = Answer::Sent;
-    flights.swap(Flight::new(Cargo::Answer { id, answer }))?.into_letter()
+    flights
+        .swap(Flight::new(Cargo::Answer { id, answer }))?
+        .into_letter()
 }
 
 // The answer takes the place of the flight of this name.

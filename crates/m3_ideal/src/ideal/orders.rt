@@ -40,7 +40,11 @@ impl Ideal {
     }
 
     /// A grant is revoked, or that is refused.
-    pub(crate) fn revoke(&mut self, alloc: Global, grant: GrantId) -> Result<Option<Word>, AllocError>
+    pub(crate) fn revoke(
+        &mut self,
+        alloc: Global,
+        grant: GrantId,
+    ) -> Result<Option<Word>, AllocError>
         ensures { Steps result (revoke_in self.old grant (revoke_refusal (grant_in self.old.grants grant))) self.old self.new }
     {
         if let Some(why) = self.grants.revoke_refusal(grant) {
