@@ -10,6 +10,15 @@ use Rattle.m3_base.specs.Ideal.Flights.{name_of, same_name, name_before, flight,
 pub same_name-is : (a b : FlightId) → same_name a b ≡ true → a ≡ b
 same_name-is a b h = grind (arith, nat_tests)
 
+-- a packet that is found has the name that was looked for
+pub name_found : (id : FlightId) (p : Packet) (fs : List Packet) → flight id fs ≡ Some p → id ≡ name_of p
+name_found id p [] e = absurd (cc)
+name_found id p (x ∷ fs) e = by_case (same_name id (name_of x)) refl (name_found id p fs)
+  where
+    by_case : (b : Bool) → same_name id (name_of x) ≡ b → (flight id fs ≡ Some p → id ≡ name_of p) → id ≡ name_of p
+    by_case true w ih = let same : x ≡ p = grind (arith, e, w) in same_name-is id (name_of x) w ∙ ap name_of same
+    by_case false w ih = ih (grind (arith, e, w))
+
 pub same_name-itself : (a : FlightId) → same_name a a ≡ true
 same_name-itself a = grind (arith, nat_tests)
 

@@ -1,5 +1,5 @@
 -- Look-ups in a list that became longer, or changed at a place.
-use Rattle.std.proofs.Common.{◌≡◌, ℕ, zero, suc, ◌+◌, ◌<◌, ◌≤◌, List, [], ◌∷◌, ◌++◌, length, Some, None, refl, arith, length-append}
+use Rattle.std.proofs.Common.{◌≡◌, ℕ, zero, suc, ◌+◌, ◌<◌, ◌≤◌, List, [], ◌∷◌, ◌++◌, length, get_or, replicate, Some, None, refl, arith, length-append}
 use Rattle.std.specs.Prelude.{if◌then◌else◌, ◌==◌, slice_get, slice_set}
 use Rattle.std.proofs.lemmas.Bool.Decides.{nat_tests}
 
@@ -8,6 +8,12 @@ get_pushed [] y zero = refl
 get_pushed [] y (suc i) = grind (arith, nat_tests)
 get_pushed (x ∷ xs) y zero = grind (arith, nat_tests)
 get_pushed (x ∷ xs) y (suc i) = grind (arith, nat_tests, get_pushed xs y i)
+
+-- a list of one value has that value everywhere, and past its end by default
+pub get_replicated : {X : Type 0} (n i : ℕ) (x : X) → get_or (replicate n x) i x ≡ x
+get_replicated zero i x = refl
+get_replicated (suc n) zero x = refl
+get_replicated (suc n) (suc i) x = get_replicated n i x
 
 pub get_none : {X : Type 0} (xs : List X) (i : ℕ) → slice_get xs i ≡ None → length xs ≤ i
 get_none [] i e = omega arith

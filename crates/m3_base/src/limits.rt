@@ -8,6 +8,8 @@ pub const KERNEL: u8 = 64;
 pub const LEAST_TILES: u8 = 3;
 
 pub const MOST_TILES: u8 = 16;
+/// Commands of an activity that fly at once.
+pub const WINDOW: usize = 1;
 /// Endpoints of an activity, numbered from 0.
 pub const ENDPOINTS: usize = 16;
 /// Of all activities.

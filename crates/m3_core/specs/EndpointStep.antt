@@ -36,7 +36,8 @@ header_unless None m = header_or_refusal m
 
 -- the header of the message that is replied to
 abbrev pub reply_header : ℕ → ℕ → Endpoint → Result Header Refusal
-reply_header token bytes (Receives r) = header_unless (reply_refusal_at r token bytes) (unmarked_message (fetched_at token r.fetched))
+reply_header token bytes (Receives r) =
+    header_unless (reply_refusal_at r token bytes) (unmarked_message (fetched_at token r.fetched))
 reply_header token bytes _ = Err Refusal.NoEndpoint
 
 abbrev pub acknowledge_header : ℕ → Endpoint → Result Header Refusal

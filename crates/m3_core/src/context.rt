@@ -18,14 +18,12 @@ ghost use Rattle.m3_base.specs.Ideal.EndpointStep.{oldest_at};
 use crate::flying::{Flying, Kind};
 use crate::slot::Slot;
 use m3_base::ids::{ActId, EpId, FlightId};
+use m3_base::limits::WINDOW;
 use m3_base::message::Message;
 use m3_base::packet::Fresh;
 use m3_endpoint::endpoint::Record;
 use std::alloc::{AllocError, Global};
 use std::marker::Model;
-
-/// How many commands of an activity fly at most.
-const WINDOW: usize = 1;
 
 /// One activity's endpoints, its flying commands and its next number. Contracts see these four. No call but `new` takes
 /// memory.

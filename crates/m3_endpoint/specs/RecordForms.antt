@@ -5,7 +5,8 @@ use Rattle.m3_base.specs.Ideal.Context.{SendRecord, ReceiveRecord, MemoryRecord}
 use Rattle.m3_base.specs.Ideal.Acceptance.{is_form}
 
 abbrev pub IsSendForm : Fresh → Type 0
-IsSendForm (Fresh.Send grant to to_ep to_grant label size limit) = IsTrue (is_form (Fresh.Send grant to to_ep to_grant label size limit))
+IsSendForm (Fresh.Send grant to to_ep to_grant label size limit) =
+    IsTrue (is_form (Fresh.Send grant to to_ep to_grant label size limit))
 IsSendForm (Fresh.Receive grant slots size) = ⊥
 IsSendForm (Fresh.Memory grant start length perm) = ⊥
 

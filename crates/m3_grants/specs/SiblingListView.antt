@@ -10,7 +10,8 @@ parents_in = map (λ l. l.parent)
 -- the link at a place says who is kin to the grant there
 abbrev pub SaysKin : List (Option ℕ) → ℕ → Option Kin → Type 0
 SaysKin parents i None = Unit {0}
-SaysKin parents i (Some l) = (is_before l.parent i ≡ true) × (IsPrevious parents (i + 1) l.previous × IsLast parents (i + 1) (length parents) l.last_child)
+SaysKin parents i (Some l) =
+    (is_before l.parent i ≡ true) × (IsPrevious parents (i + 1) l.previous × IsLast parents (i + 1) (length parents) l.last_child)
 
 pub record IsLinked (links : List Kin) : Type 0 where
   pub few : length links ≤ 4096

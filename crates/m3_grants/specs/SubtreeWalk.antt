@@ -27,13 +27,19 @@ IsPending root before h = (0 < h) × (is_marked (slice_index_or (parents_of befo
 abbrev pub is_later : List (Option ℕ) → List ℕ → ℕ → ℕ → Bool
 is_later parents pending p i = list_any (λ h. is_under parents p (h - 1) && nat_lt i h) pending
 
+-- the node, closed if it is of the subtree
+abbrev pub closed_under : ℕ → List Node → ℕ → Option Node
+closed_under root before i = on_node (close_if (or_false (slice_get (marks root before) i))) (slice_get before i)
+
 pub record Walks (root : ℕ) (before now : List Node) (pending : List ℕ) : Type 0 where
   pub rightful : AllRightful (grants_of before)
   pub parents : parents_of now ≡ parents_of before
   pub closed : is_live_node (slice_get now (root - 1)) ≡ false
   -- what is still live is as it was, and of the others only those of the subtree were closed
-  pub only : (i : ℕ) → slice_get now i ≡ (if is_live_node (slice_get now i) then slice_get before i else on_node (close_if (or_false (slice_get (marks root before) i))) (slice_get before i))
+  pub only : (i : ℕ)
+      → slice_get now i ≡ (if is_live_node (slice_get now i) then slice_get before i else closed_under root before i)
   pub inside : All (IsPending root before) pending
   -- who is live under one that isn't is visited later
-  pub later : (p i : ℕ) → is_live_node (slice_get now i) ≡ true → is_under (parents_of before) p i ≡ true → is_live_node (slice_get now (p - 1)) ≡ false → is_later (parents_of before) pending p i ≡ true
+  pub later : (p i : ℕ) → is_live_node (slice_get now i) ≡ true → is_under (parents_of before) p i ≡ true
+      → is_live_node (slice_get now (p - 1)) ≡ false → is_later (parents_of before) pending p i ≡ true
   pub room : length pending + live_count now ≤ 4096

@@ -31,7 +31,8 @@ pub record SentThrough (grant its_to its_ep its_grant its_label size : ℕ) (to 
   pub short : length m.payload ≤ size
 
 abbrev pub IsSentBy : Option Fresh → ℕ → ℕ → ℕ → Message → Type 0
-IsSentBy (Some (Fresh.Send grant its_to its_ep its_grant label size limit)) to ep h m = SentThrough grant its_to its_ep its_grant label size to ep h m
+IsSentBy (Some (Fresh.Send grant its_to its_ep its_grant label size limit)) to ep h m =
+    SentThrough grant its_to its_ep its_grant label size to ep h m
 IsSentBy form to ep h m = ⊥
 
 -- the reply m to a message: it goes to the reply endpoint that the message names, under the message's grant and label
@@ -82,7 +83,9 @@ HasFlight f e (Some p) = IsFlightOf f.kind f.token e p
 
 -- each flying command of this context has its flight
 abbrev pub AllFly : List Packet → Context → Type 0
-AllFly fs c = (n : ℕ) (f : Flying) → flying_at n c.flying ≡ Some f → HasFlight f (endpoint c f.ep) (flight (record { issuer = c.act; number = n }) fs)
+AllFly fs c =
+    (n : ℕ) (f : Flying) → flying_at n c.flying ≡ Some f
+    → HasFlight f (endpoint c f.ep) (flight (record { issuer = c.act; number = n }) fs)
 
 abbrev pub CommandsHaveFlights : List Context → List Packet → Type 0
 CommandsHaveFlights cs fs = (a : ℕ) (c : Context) → context_of a cs ≡ Some c → AllFly fs c
@@ -150,5 +153,6 @@ pub record CommandsMatchFlights (cs : List Context) (fs : List Packet) : Type 0 
   pub distinct : Distinct fs
   pub commands : CommandsHaveFlights cs fs
   pub packets : (id : FlightId) (p : Packet) → flight id fs ≡ Some p → HasCommand cs p
-  pub reads : (id x : FlightId) (h place : ℕ) (buffer : List ℕ) → flight id fs ≡ Some (Packet.Read x h place buffer) → AreZeros buffer
+  pub reads : (id x : FlightId) (h place : ℕ) (buffer : List ℕ)
+      → flight id fs ≡ Some (Packet.Read x h place buffer) → AreZeros buffer
   pub marks : (a : ℕ) (c : Context) → context_of a cs ≡ Some c → MarksAreReplies c

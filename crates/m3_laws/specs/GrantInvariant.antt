@@ -97,19 +97,24 @@ IsData p = Unit {0}
 
 -- an Install's grant is held where it goes, and the endpoint there is free
 abbrev pub InstallLawful : List Grant → List Context → Packet → Type 0
-InstallLawful gs cs (Packet.Install id to ep f) = (ep < 16) × IsHeldAt (grant_in gs (number_of f)) to ep f × (form_of (endpoint_at (context_of to cs) ep) ≡ None)
+InstallLawful gs cs (Packet.Install id to ep f) =
+    (ep < 16) × IsHeldAt (grant_in gs (number_of f)) to ep f × (form_of (endpoint_at (context_of to cs) ep) ≡ None)
 InstallLawful gs cs p = Unit {0}
 
 -- two grants that aren't done have no endpoint in common
 abbrev pub SlotsLawful : List Grant → Type 0
-SlotsLawful gs = (g h : ℕ) (x y : Grant) → grant_in gs g ≡ Some x → grant_in gs h ≡ Some y → is_done x.standing ≡ false → is_done y.standing ≡ false → holder x.line ≡ holder y.line → holder_ep x.line ≡ holder_ep y.line → g ≡ h
+SlotsLawful gs =
+    (g h : ℕ) (x y : Grant) → grant_in gs g ≡ Some x → grant_in gs h ≡ Some y
+    → is_done x.standing ≡ false → is_done y.standing ≡ false
+    → holder x.line ≡ holder y.line → holder_ep x.line ≡ holder_ep y.line → g ≡ h
 
 -- grants, their records, their Installs and their Closes
 pub record RecordsMatchGrants (s : State) : Type 0 where
   pub distinct : Distinct s.flights
   pub cells : (a : ℕ) (c : Context) → context_of a s.contexts ≡ Some c → length c.endpoints ≡ 16
   -- each record is that of a grant that is held here
-  pub records : (a : ℕ) (c : Context) → context_of a s.contexts ≡ Some c → (ep : ℕ) → FormLawful s.grants a ep (form_of (endpoint c ep))
+  pub records : (a : ℕ) (c : Context) → context_of a s.contexts ≡ Some c
+      → (ep : ℕ) → FormLawful s.grants a ep (form_of (endpoint c ep))
   pub installs : (id : FlightId) (p : Packet) → flight id s.flights ≡ Some p → InstallLawful s.grants s.contexts p
   -- each open grant has one record or one Install, and no other grant has any
   pub presence : (g : ℕ) → record_count g s ≡ one (is_open_grant (grant_in s.grants g))

@@ -71,7 +71,8 @@ pub record KeepsLaws (s : State) (es : List Entry) : Type 0 where
   pub sends : (before rest : List Entry) (e : Entry) → es ≡ before ++ e ∷ rest → TellsSends (state_after_entries s before) e
   pub causes : LandCausesAt (state_after_entries s es)
   -- from the entry on with which a grant becomes done, nothing of its subtree is left
-  pub revoked : (before rest : List Entry) (e : Entry) (g : ℕ) → es ≡ before ++ e ∷ rest → EndsGrant g e → SubtreeGone (state_after_entries s es) g
+  pub revoked : (before rest : List Entry) (e : Entry) (g : ℕ)
+      → es ≡ before ++ e ∷ rest → EndsGrant g e → SubtreeGone (state_after_entries s es) g
   pub gone : GoneAt (state_after_entries s es)
   pub records : RecordsAt (state_after_entries s es)
   pub children : ChildrenAt (state_after_entries s es)

@@ -44,15 +44,21 @@ CreditsAt s = (g : ℕ) (x : Grant) → grant_in s.grants g ≡ Some x → is_op
 
 -- no activity has a record of a grant that is closed or done
 abbrev pub RecordsAt : State → Type 0
-RecordsAt s = (g : ℕ) (x : Grant) (a ep : ℕ) (c : Context) → grant_in s.grants g ≡ Some x → is_open x.standing ≡ false → context_of a s.contexts ≡ Some c → is_number g (grant_of (endpoint c ep)) ≡ false
+RecordsAt s =
+    (g : ℕ) (x : Grant) (a ep : ℕ) (c : Context) → grant_in s.grants g ≡ Some x → is_open x.standing ≡ false
+    → context_of a s.contexts ≡ Some c → is_number g (grant_of (endpoint c ep)) ≡ false
 
 -- under a grant that is done all are done
 abbrev pub ChildrenAt : State → Type 0
-ChildrenAt s = (g p : ℕ) (x y : Grant) → grant_in s.grants g ≡ Some x → grant_in s.grants p ≡ Some y → parent_of x.line ≡ Some p → is_done y.standing ≡ true → is_done x.standing ≡ true
+ChildrenAt s =
+    (g p : ℕ) (x y : Grant) → grant_in s.grants g ≡ Some x → grant_in s.grants p ≡ Some y
+    → parent_of x.line ≡ Some p → is_done y.standing ≡ true → is_done x.standing ≡ true
 
 -- after every run from the opening of every valid setup
 abbrev pub Always : (State → Type 0) → Type 0
-Always P = (setup : SetupValue) (steps : List Step) → IsValid setup → AllFit steps → P (final (opening setup.memory setup.lines) steps)
+Always P =
+    (setup : SetupValue) (steps : List Step) → IsValid setup → AllFit steps
+    → P (final (opening setup.memory setup.lines) steps)
 
 abbrev pub CreditLaw : Type 0
 CreditLaw = Always CreditsAt
@@ -97,27 +103,39 @@ pub record IsGone (s : State) (g : ℕ) (x : Grant) : Type 0 where
   -- nothing that was sent through it flies, so no byte is read or written through it
   pub sent : (id : FlightId) (p : Packet) → flight id s.flights ≡ Some p → is_sent_through g p ≡ false
   pub credit : (a : ℕ) (c : Context) → context_of a s.contexts ≡ Some c → has_send g c ≡ false
-  pub reply : (a ep : ℕ) (c : Context) (m : Message) → context_of a s.contexts ≡ Some c → land_refusal g m (endpoint c ep) ≡ Some Refusal.Revoked
+  pub reply : (a ep : ℕ) (c : Context) (m : Message)
+      → context_of a s.contexts ≡ Some c → land_refusal g m (endpoint c ep) ≡ Some Refusal.Revoked
 
 -- under a grant that is done all are gone
 abbrev pub GoneAt : State → Type 0
-GoneAt s = (r g : ℕ) (y x : Grant) (path : List ℕ) → grant_in s.grants r ≡ Some y → is_done y.standing ≡ true → IsPath s.grants r g path → grant_in s.grants g ≡ Some x → IsGone s g x
+GoneAt s =
+    (r g : ℕ) (y x : Grant) (path : List ℕ) → grant_in s.grants r ≡ Some y → is_done y.standing ≡ true
+    → IsPath s.grants r g path → grant_in s.grants g ≡ Some x → IsGone s g x
 
 abbrev pub GoneLaw : Type 0
 GoneLaw = Always GoneAt
 
+-- whoever is under a grant that is done is gone after these steps too
+abbrev pub StaysGone : State → List Step → Type 0
+StaysGone s more =
+    (r g : ℕ) (y x : Grant) (path : List ℕ) → grant_in s.grants r ≡ Some y → is_done y.standing ≡ true
+    → IsPath s.grants r g path → grant_in (final s more).grants g ≡ Some x → IsGone (final s more) g x
+
 -- from when a grant is done, all under it are gone
 abbrev pub GoneForever : Type 0
 GoneForever =
-    (setup : SetupValue) (steps more : List Step) → IsValid setup → AllFit steps → AllFit more → (r g : ℕ) (y x : Grant) (path : List ℕ) → grant_in (final (opening setup.memory setup.lines) steps).grants r ≡ Some y → is_done y.standing ≡ true → IsPath (final (opening setup.memory setup.lines) steps).grants r g path → grant_in (final (final (opening setup.memory setup.lines) steps) more).grants g ≡ Some x → IsGone (final (final (opening setup.memory setup.lines) steps) more) g x
+    (setup : SetupValue) (steps more : List Step) → IsValid setup → AllFit steps → AllFit more
+    → StaysGone (final (opening setup.memory setup.lines) steps) more
 
 -- ---- granted bytes
 
 -- the bytes of each read and write that flies, and so of each that lands, are granted by its grant, with that permission
 abbrev pub AccessAt : State → Type 0
 AccessAt s =
-    ((id x : FlightId) (g place : ℕ) (buffer : List ℕ) → flight id s.flights ≡ Some (Packet.Read x g place buffer) → Granted s g place (length buffer) Perm.R)
-    × ((id x : FlightId) (g place : ℕ) (payload : List ℕ) → flight id s.flights ≡ Some (Packet.Write x g place payload) → Granted s g place (length payload) Perm.W)
+    ((id x : FlightId) (g place : ℕ) (buffer : List ℕ)
+    → flight id s.flights ≡ Some (Packet.Read x g place buffer) → Granted s g place (length buffer) Perm.R)
+    × ((id x : FlightId) (g place : ℕ) (payload : List ℕ)
+    → flight id s.flights ≡ Some (Packet.Write x g place payload) → Granted s g place (length payload) Perm.W)
 
 abbrev pub AccessLaw : Type 0
 AccessLaw = Always AccessAt
@@ -134,7 +152,10 @@ IsSendCause Refusal.NoCredits = Unit {0}
 IsSendCause why = ⊥
 
 abbrev pub SendCauses : Type 0
-SendCauses = (s : State) (a ep : ℕ) (payload : List ℕ) (to : Option ℕ) (n : IdealResult) (why : Refusal) → ideal_step s (Step.Issue a (Command.Send ep payload to)) ≡ Some n → n.word ≡ At_issue (IssueOutcome.Gives (Reply.Refused why)) → IsSendCause why
+SendCauses =
+    (s : State) (a ep : ℕ) (payload : List ℕ) (to : Option ℕ) (n : IdealResult) (why : Refusal)
+    → ideal_step s (Step.Issue a (Command.Send ep payload to)) ≡ Some n
+    → n.word ≡ At_issue (IssueOutcome.Gives (Reply.Refused why)) → IsSendCause why
 
 -- the first cause for which a send through this endpoint is refused
 abbrev pub send_cause : Context → List ℕ → Option ℕ → Endpoint → Option Refusal

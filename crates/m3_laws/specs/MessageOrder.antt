@@ -5,7 +5,7 @@ use Rattle.m3_base.specs.Ideal.State.{State}
 use Rattle.m3_base.specs.Ideal.Opening.{opening}
 use Rattle.m3_base.specs.Setup.Rules.{SetupValue, IsValid}
 use Rattle.m3_base.specs.Ideal.Step.{IdealResult, ideal_step}
-use Rattle.m3_base.specs.Ideal.MessageTraces.{final, state_after_steps, collect, issued_at, landed_at, refused_at, fetched_at, flying_of, names_of, messages_named}
+use Rattle.m3_base.specs.Ideal.MessageTraces.{final, state_after_steps, collect, landed_at, fetched_at, flying_of, names_of, messages_named, unrefused}
 use Rattle.m3_laws.specs.Laws.{AllFit}
 use Rattle.m3_base.specs.Lists.Prefixes.{IsPrefix}
 
@@ -20,7 +20,8 @@ AllHaveNext s (t ∷ ts) = HasNext (ideal_step s t) × AllHaveNext (state_after_
 
 -- the messages of g that landed are those issued, without those refused and those that still fly, in order
 abbrev pub LandsInOrder : ℕ → State → List Step → Type 0
-LandsInOrder g s ts = collect (landed_at g) s ts ≡ messages_named (names_of (flying_of g (final s ts).flights)) (messages_named (collect (refused_at g) s ts) (collect (issued_at g) s ts))
+LandsInOrder g s ts =
+    collect (landed_at g) s ts ≡ messages_named (names_of (flying_of g (final s ts).flights)) (unrefused g s ts)
 
 abbrev pub LandingOrder : Type 0
 LandingOrder =

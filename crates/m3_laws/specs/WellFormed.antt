@@ -132,7 +132,8 @@ is_held_at a ep (Some x) = (holder x.line == a) && (holder_ep x.line == ep)
 
 -- a message goes where the form of its send grant says, and is no longer than that says
 abbrev pub is_sent_by_form : ℕ → ℕ → ℕ → ℕ → Fresh → Bool
-is_sent_by_form to ep h len (Fresh.Send g its_to its_ep its_grant label size limit) = (its_to == to) && ((its_ep == ep) && ((its_grant == h) && nat_le len size))
+is_sent_by_form to ep h len (Fresh.Send g its_to its_ep its_grant label size limit) =
+    (its_to == to) && ((its_ep == ep) && ((its_grant == h) && nat_le len size))
 is_sent_by_form to ep h len (Fresh.Receive g slots size) = false
 is_sent_by_form to ep h len (Fresh.Memory g start length perm) = false
 
@@ -145,7 +146,8 @@ abbrev pub is_entitled : List Grant → Packet → Bool
 is_entitled gs (Packet.Read id h place buffer) = is_covered place (length buffer) Perm.R h (grant_in gs h)
 is_entitled gs (Packet.Write id h place payload) = is_covered place (length payload) Perm.W h (grant_in gs h)
 is_entitled gs (Packet.Close id to ep h) = is_held_at to ep (grant_in gs h)
-is_entitled gs (Packet.Message to ep h m) = if m.header.flags == 0 then is_sent_as to ep h (length m.payload) (grant_in gs m.header.send) else true
+is_entitled gs (Packet.Message to ep h m) =
+    if m.header.flags == 0 then is_sent_as to ep h (length m.payload) (grant_in gs m.header.send) else true
 is_entitled gs (Packet.Credit id to h) = true
 is_entitled gs (Packet.Answer id answer) = true
 is_entitled gs (Packet.Install id to ep f) = true

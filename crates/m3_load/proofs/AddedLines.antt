@@ -1,15 +1,12 @@
 -- Lines that no rule refuses are added one after the other.
 use Rattle.std.proofs.Common.{◌≡◌, List, [], ◌∷◌, ◌++◌, append_assoc, ap, sym, ◌∙◌, subst, refl}
 use Rattle.m3_base.specs.declared.setup_line.SetupLine.{SetupLine}
-use Rattle.m3_base.specs.Setup.Rules.{Facts, SetupValue, AllKept, no_lines, facts_of, facts_with_line, facts_with_lines}
-
-facts_next : (ls : List SetupLine) (l : SetupLine) (f : Facts) → facts_with_lines (ls ++ l ∷ []) f ≡ facts_with_line l (facts_with_lines ls f)
-facts_next [] l f = refl
-facts_next (x ∷ xs) l f = facts_next xs l (facts_with_line x f)
+use Rattle.m3_base.specs.Setup.Rules.{SetupValue, AllKept, no_lines, facts_of}
+use Rattle.m3_base.proofs.SetupValidity.{noted_last}
 
 pub rest_kept : (s new : SetupValue) (l : SetupLine) (ls : List SetupLine) → new ≡ record s { lines = s.lines ++ l ∷ [] } → AllKept (l ∷ ls) (facts_of s) → AllKept ls (facts_of new)
 rest_kept s new l ls is kept =
-    subst (AllKept ls) (sym (ap facts_of is ∙ facts_next s.lines l (no_lines s.tiles s.memory))) kept.1.1
+    subst (AllKept ls) (sym (ap facts_of is ∙ noted_last s.lines l (no_lines s.tiles s.memory))) kept.1.1
 
 pub all_added : (first s new : SetupValue) (made : List SetupLine) (l : SetupLine) → s ≡ record first { lines = first.lines ++ made } → new ≡ record s { lines = s.lines ++ l ∷ [] }
     → new ≡ record first { lines = first.lines ++ (made ++ l ∷ []) }

@@ -10,6 +10,7 @@ use Rattle.std.proofs.lemmas.List.Folds.{list_any-append}
 use Rattle.std.proofs.lemmas.Map.Keys.{IsDistinct-push}
 use Rattle.std.proofs.lemmas.Map.Steps.{length-le_from_distinct_below}
 use Rattle.std.proofs.lemmas.Map.Views.{any-filter_same}
+use Rattle.m3_base.proofs.ListLookups.{get_replicated}
 use Rattle.m3_base.specs.Placement.State.{with_member}
 use Rattle.m3_sched.specs.ReadyListView.{IsList}
 
@@ -61,16 +62,11 @@ distinct_empty xs e = subst (IsDistinct ◌==◌) (sym e) tt
 
 -- ---- an empty list
 
-none_has : (n a : ℕ) → get_or (replicate n false) a false ≡ false
-none_has zero a = refl
-none_has (suc n) zero = refl
-none_has (suc n) (suc a) = none_has n a
-
 pub empty_list : (acts : List ℕ) (capacity : ℕ) (has : List Bool) → acts ≡ [] → 64 ≤ capacity → has ≡ replicate 64 false → IsList acts capacity has
 empty_list acts capacity has e r f = record {
   room = r;
   count = ap length f;
-  flags = λ a. ap (λ xs. get_or xs a false) f ∙ none_has 64 a ∙ sym (ap (list_any (λ b. b == a)) e);
+  flags = λ a. ap (λ xs. get_or xs a false) f ∙ get_replicated 64 a false ∙ sym (ap (list_any (λ b. b == a)) e);
   distinct = distinct_empty acts e;
 }
 

@@ -79,7 +79,7 @@ no_return (c ∷ l) (suc i) h = let s = and_parts (is_plain c) (list_all is_plai
 whole : (l : List ℕ) → list_all is_plain l ≡ true → strip_carriage_return l ≡ l
 whole l h = rw (no_return l (length l - 1) h) refl
 
-first_again : (l rest : List ℕ) → list_all is_plain l ≡ true → lines (l ++ 10 ∷ rest) ≡ l ∷ lines rest
+pub first_again : (l rest : List ℕ) → list_all is_plain l ≡ true → lines (l ++ 10 ∷ rest) ≡ l ∷ lines rest
 first_again l rest is =
     rw (slice_split_at (λ b. eqb b 10) l 10 rest (no_newline l is) refl)
     (line_then l (slice_split (λ b. eqb b 10) rest) (omega (arith, length-slice_split (λ b. eqb b 10) rest)) ∙ ap (λ (t : List ℕ). t ∷ lines rest) (whole l is))

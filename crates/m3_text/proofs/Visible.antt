@@ -42,7 +42,7 @@ number_visible n lt =
 hex_digit_visible : (c : ℕ) → is_hex_digit c ≡ true → is_visible c ≡ true
 hex_digit_visible c h = grind (arith, common_steps)
 
-pass_visible : (w : List ℕ) → AllPass is_hex_digit w → list_all is_visible w ≡ true
+pub pass_visible : (w : List ℕ) → AllPass is_hex_digit w → list_all is_visible w ≡ true
 pass_visible [] h = refl
 pass_visible (c ∷ w) h = rw (hex_digit_visible c (h 0 0 (omega arith)), pass_visible w (λ i d lt. h (suc i) d (omega arith))) refl
 

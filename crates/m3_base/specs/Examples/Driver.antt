@@ -42,7 +42,8 @@ pending_or (Some ep) m = Made.Await ep
 
 abbrev pub move_of : Placement → Programs → ℕ → Option PlacedActivity → Option Made
 move_of p ps a None = None
-move_of p ps a (Some x) = if is_due_quantum p x then Some Made.Quantum else Some (pending_or x.pending (first_move (items_of a ps)))
+move_of p ps a (Some x) =
+    if is_due_quantum p x then Some Made.Quantum else Some (pending_or x.pending (first_move (items_of a ps)))
 
 abbrev pub made_by : Placement → Programs → Event → Option Made
 made_by p ps (Event.Turn a) = move_of p ps a (actor a p)

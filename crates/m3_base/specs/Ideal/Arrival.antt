@@ -44,7 +44,9 @@ arrival_of_answer id answer c ep closed =
 
 abbrev pub answer_arrives : Context → FlightId → Answer → Option Flying → Option Arrival
 answer_arrives c id answer None = None
-answer_arrives c id answer (Some f) = let d = context_after_answer f answer c in arrival_of_answer id answer d f.ep (freed_grant f.ep d)
+answer_arrives c id answer (Some f) =
+    let d = context_after_answer f answer c in
+    arrival_of_answer id answer d f.ep (freed_grant f.ep d)
 
 -- none where the packet is for the memory, or nothing here waits for it
 abbrev pub arrive : Context → Packet → Option Arrival

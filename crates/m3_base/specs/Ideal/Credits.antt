@@ -82,7 +82,8 @@ credits g s = credits_held g s + credits_flying g s + credits_queued g s
 -- ---- access
 
 abbrev pub covers : ℕ → ℕ → ℕ → Perm → Fresh → Bool
-covers g at len perm (Fresh.Memory h start length its) = nat_le start at && (nat_le (at + len) (start + length) && is_within_perm perm its)
+covers g at len perm (Fresh.Memory h start length its) =
+    nat_le start at && (nat_le (at + len) (start + length) && is_within_perm perm its)
 covers g at len perm f = false
 
 abbrev pub granted_by : ℕ → ℕ → ℕ → Perm → Option Grant → Bool

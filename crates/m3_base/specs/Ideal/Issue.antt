@@ -165,14 +165,16 @@ reply_to c ep token payload r (Some m) =
 
 abbrev pub reply : Context → ℕ → ℕ → List ℕ → Endpoint → Issued
 reply c ep token payload (Receives r) =
-    unless_refusal (reply_refusal r token payload) c (reply_to c ep token payload r (unmarked_message (fetched_at token r.fetched)))
+    unless_refusal (reply_refusal r token payload) c
+    (reply_to c ep token payload r (unmarked_message (fetched_at token r.fetched)))
 reply c ep token payload _ = wrong_kind c
 
 -- ---- fetch
 
 abbrev pub fetch_from : Context → ℕ → ReceiveRecord → List Message → Issued
 fetch_from c ep r [] = immediate_reply c Reply.Nothing
-fetch_from c ep r (m ∷ rest) = immediate_reply (with_endpoint c ep (Receives (with_fetched r m rest))) (Reply.Fetched r.next_token m)
+fetch_from c ep r (m ∷ rest) =
+    immediate_reply (with_endpoint c ep (Receives (with_fetched r m rest))) (Reply.Fetched r.next_token m)
 
 abbrev pub fetch : Context → ℕ → Endpoint → Issued
 fetch c ep (Receives r) =
@@ -191,7 +193,8 @@ after_acknowledge c ep r token m true =
       packet = Some (credit_packet c m);
       context = record (with_endpoint c ep (Receives (without_fetched r token))) { next = c.next + 1 };
     }
-after_acknowledge c ep r token m false = immediate_reply (with_endpoint c ep (Receives (without_fetched r token))) (Reply.Acknowledged None)
+after_acknowledge c ep r token m false =
+    immediate_reply (with_endpoint c ep (Receives (without_fetched r token))) (Reply.Acknowledged None)
 
 abbrev pub acknowledge_at : Context → ℕ → ReceiveRecord → ℕ → Option Message → Issued
 acknowledge_at c ep r token None = immediate_reply c (Reply.Refused Refusal.NoSuchToken)

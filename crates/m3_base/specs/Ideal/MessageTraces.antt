@@ -117,6 +117,10 @@ is_named ids m = list_any (same_name (message_id m)) ids
 abbrev pub messages_named : List FlightId → List Message → List Message
 messages_named ids ms = filter (λ m. not (is_named ids m)) ms
 
+-- those that were issued and not refused
+abbrev pub unrefused : ℕ → State → List Step → List Message
+unrefused g s ts = messages_named (collect (refused_at g) s ts) (collect (issued_at g) s ts)
+
 pub record Laws (g : ℕ) (s : State) (ts : List Step) : Type 0 where
-  pub landing : collect (landed_at g) s ts ≡ messages_named (names_of (flying_of g (final s ts).flights)) (messages_named (collect (refused_at g) s ts) (collect (issued_at g) s ts))
+  pub landing : collect (landed_at g) s ts ≡ messages_named (names_of (flying_of g (final s ts).flights)) (unrefused g s ts)
   pub fetching : IsPrefix (collect (fetched_at g) s ts) (collect (landed_at g) s ts)

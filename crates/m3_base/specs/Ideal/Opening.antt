@@ -22,7 +22,8 @@ state_with_grant s line (Some f) =
 
 abbrev pub with_line : State → SetupLine → State
 with_line s (SetupLine.Act a t) = record s { contexts = new_context_in (new_context a) s.contexts }
-with_line s (SetupLine.Grant line) = state_with_grant s line (form (length s.grants + 1) line (parent_in s.grants (parent_of line)))
+with_line s (SetupLine.Grant line) =
+    state_with_grant s line (form (length s.grants + 1) line (parent_in s.grants (parent_of line)))
 -- quanta, files and programs are no part of an ideal state
 with_line s line = s
 

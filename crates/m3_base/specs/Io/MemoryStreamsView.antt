@@ -7,7 +7,8 @@ use Rattle.m3_base.specs.declared.memory_streams.InfallibleSink.TheInside.{Insid
 use Rattle.m3_base.specs.Io.MemoryStreams.{Giving, Taking, SureGiving, SureTaking}
 
 abbrev pub source_value : Inside → Giving
-source_value s = record { left = drop s.at s.bytes.items; most = s.most; fails = s.fails.items; calls = s.calls; faults = s.faults }
+source_value s =
+    record { left = drop s.at s.bytes.items; most = s.most; fails = s.fails.items; calls = s.calls; faults = s.faults }
 
 pub record IsSource (s : Inside) : Type 0 where
   pub at : s.at ≤ length s.bytes.items

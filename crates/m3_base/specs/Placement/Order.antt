@@ -26,7 +26,10 @@ is_moving_at t x = (x.home == t) && (is_leaving x.place || is_coming x.place)
 
 abbrev pub after_switch : State → Placement → ℕ → PlacedActivity → Option PlacedActivity → Option PlacementResult
 after_switch s p t x None = None
-after_switch s p t x (Some b) = step_outcome (Said.Save b.act) s (leave_ready t x.act (with_token 0 t (Save b.act) (at_place Coming x (at_place Leaving b p))))
+after_switch s p t x (Some b) =
+    step_outcome (Said.Save b.act) s (
+    leave_ready t x.act (with_token 0 t (Save b.act) (at_place Coming x (at_place Leaving b p)))
+    )
 
 abbrev pub switch : State → Placement → ℕ → Option PlacedActivity → Option PlacementResult
 switch s p t None = None
@@ -36,7 +39,11 @@ switch s p t (Some x) =
     else (
     if is_placed x.place || is_coming x.place
     then step_outcome (Said.No No.Already) s p
-    else (if list_any (is_moving_at t) p.actors then step_outcome (Said.No No.Leaving) s p else after_switch s p t x (placed_at t p.actors))
+    else (
+    if list_any (is_moving_at t) p.actors
+    then step_outcome (Said.No No.Leaving) s p
+    else after_switch s p t x (placed_at t p.actors)
+    )
     )
 
 abbrev pub order_by : State → Routed → Option RunResult → Option PlacementResult

@@ -55,7 +55,9 @@ new_stay (Some x) p = with_actor (record x { moves = 0; yield_sent = false }) p
 abbrev pub take_at_tile : State → Placement → ℕ → LinkToken → Option PlacementResult
 take_at_tile s p t (Data id) = take_data s p t id
 take_at_tile s p t (Save a) =
-    step_outcome (Said.Saving a) s (with_token t 0 (Saved a (is_waiting s (actor a p)) (has_ended (actor a p))) (with_current t None p))
+    step_outcome (Said.Saving a) s (
+    with_token t 0 (Saved a (is_waiting s (actor a p)) (has_ended (actor a p))) (with_current t None p)
+    )
 take_at_tile s p t (Restore a) = step_outcome (Said.Current a) s (new_stay (actor a p) (with_current t (Some a) p))
 take_at_tile s p t token = None
 
@@ -75,7 +77,12 @@ is_leaving_at t x = (x.home == t) && is_leaving x.place
 abbrev pub with_restore : Said → State → Placement → Option PlacedActivity → Option PlacementResult
 with_restore said s p None = step_outcome said s p
 with_restore said s p (Some x) =
-    Some (record { said = said; restore = Some x.act; state = s; places = with_yielded x.home false (with_token 0 x.home (Restore x.act) (at_place Placed x p)) })
+    Some (record {
+      said = said;
+      restore = Some x.act;
+      state = s;
+      places = with_yielded x.home false (with_token 0 x.home (Restore x.act) (at_place Placed x p));
+    })
 
 -- Restore goes out where the tile has nobody leaving and the one that comes has nothing held
 abbrev pub then_restore : Said → State → ℕ → Placement → Option PlacementResult

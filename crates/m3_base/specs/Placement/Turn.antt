@@ -51,7 +51,8 @@ turn_move s p x (Made.Command c) =
 turn_move s p x (Made.Await ep) =
     if is_repeat x.pending ep then await_turn s p x ep (has_unread_at (context_of x.act s.contexts) (Some ep)) else None
 turn_move s p x Made.Quantum = None
-turn_move s p x Made.End = if is_some x.pending then None else step_outcome Said.Ended s (yield_once (record x { ended = true }) p)
+turn_move s p x Made.End =
+    if is_some x.pending then None else step_outcome Said.Ended s (yield_once (record x { ended = true }) p)
 
 abbrev pub quantum_turn : State → Placement → PlacedActivity → Made → Option PlacementResult
 quantum_turn s p x Made.Quantum = step_outcome Said.Yield s (yield_once x p)

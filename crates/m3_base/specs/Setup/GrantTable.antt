@@ -14,7 +14,8 @@ standing_of Stage.Closing = Closing
 standing_of Stage.Done = Done
 
 abbrev pub as_grant : Node → Grant
-as_grant x = record { line = x.line; fresh = x.fresh; standing = standing_of x.stage; close_sent = x.close_sent; is_root = x.is_root }
+as_grant x =
+    record { line = x.line; fresh = x.fresh; standing = standing_of x.stage; close_sent = x.close_sent; is_root = x.is_root }
 
 abbrev pub grants_of : List Node → List Grant
 grants_of = map as_grant
@@ -83,7 +84,8 @@ is_live_above gs (Some p) = is_live_in (grant_in gs p)
 -- a live grant's parent is live, and its Close wasn't sent
 abbrev pub is_rightful : List Grant → ℕ → Option Grant → Bool
 is_rightful gs i None = true
-is_rightful gs i (Some x) = is_before (parent_of x.line) i && (not (is_live x.standing) || (is_live_above gs (parent_of x.line) && not x.close_sent))
+is_rightful gs i (Some x) =
+    is_before (parent_of x.line) i && (not (is_live x.standing) || (is_live_above gs (parent_of x.line) && not x.close_sent))
 
 -- a grant's number isn't 0
 abbrev pub is_some_number : Option ℕ → Bool

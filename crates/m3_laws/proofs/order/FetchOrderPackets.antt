@@ -26,7 +26,8 @@ use Rattle.m3_laws.specs.Laws.{parent_at}
 use Rattle.m3_laws.specs.GrantInvariant.{QueueLawful, SentTo, AllSentTo, ChildOf, is_open_grant, IsData}
 use Rattle.m3_laws.specs.Invariant.{Invariant}
 use Rattle.m3_laws.proofs.credits.Land.{after_landing}
-use Rattle.m3_laws.proofs.invariant.step.LookUps.{name_found, found_after, found_ended, found_new, found_changed}
+use Rattle.m3_base.proofs.FlightNames.{name_found}
+use Rattle.m3_laws.proofs.invariant.step.LookUps.{found_after, found_ended, found_new, found_changed}
 use Rattle.m3_laws.proofs.credits.Issue.{in_range}
 use Rattle.m3_laws.proofs.invariant.step.IssueEffects.{IssueEffect, NewPacket, issue_effect}
 use Rattle.m3_laws.proofs.credits.Counting.{at_set, some_at, some_found, one_found}

@@ -23,12 +23,12 @@ use Rattle.m3_base.specs.Ideal.GrantRules.{form, new_grant, with_grant_made, mak
 use Rattle.m3_base.specs.Ideal.Opening.{opening}
 use Rattle.m3_base.proofs.KeyedList.{find-replaced_same}
 use Rattle.m3_base.specs.Ideal.FlightNames.{Distinct, Apart}
-use Rattle.m3_base.proofs.FlightNames.{flight-change, same_name-is, same_name-itself}
+use Rattle.m3_base.proofs.FlightNames.{name_found, flight-change, same_name-is, same_name-itself}
 use Rattle.m3_laws.specs.Laws.{AllFit}
 use Rattle.m3_laws.specs.MessageOrder.{HasNext, AllHaveNext, LandingOrder}
 use Rattle.m3_laws.specs.Invariant.{Invariant}
 use Rattle.m3_laws.proofs.credits.Land.{after_landing, same_back-taken}
-use Rattle.m3_laws.proofs.invariant.step.LookUps.{name_found, found_ended, found_new}
+use Rattle.m3_laws.proofs.invariant.step.LookUps.{found_ended, found_new}
 use Rattle.m3_laws.proofs.invariant.records.ClosingRecords.{to_closed}
 use Rattle.m3_laws.proofs.invariant.step.Invariant.{invariant_opening, invariant_step, invariant_ever}
 use Rattle.m3_laws.proofs.invariant.step.NoFlightAtOpening.{nothing_flies}

@@ -16,11 +16,10 @@ use Rattle.m3_base.specs.Ideal.Step.{with_packet, after_issue}
 use Rattle.m3_base.specs.Ideal.MessageTraces.{sent_in, new_message, flying_of, is_named, messages_named}
 use Rattle.m3_laws.proofs.order.Sublists.{flying_of-new_other, flying_of-new_only, flying_of-change, flying_of-change_only, flying_of-change_other, order-issued, order-landed, order-refused, named-append}
 use Rattle.m3_base.specs.Ideal.FlightNames.{Apart}
-use Rattle.m3_base.proofs.FlightNames.{flight-new, flight-change, same_name-is, same_name-itself, same_name-turned}
+use Rattle.m3_base.proofs.FlightNames.{name_found, flight-new, flight-change, same_name-is, same_name-itself, same_name-turned}
 use Rattle.m3_base.specs.Ideal.Credits.{gives_back_in}
 use Rattle.m3_laws.proofs.order.OneInFlight.{Single, no_message, one_message, single_flying, single_sent, sent_message, sent_flies}
 use Rattle.m3_base.proofs.KeyedList.{find-replaced_other, find-replaced_same}
-use Rattle.m3_laws.proofs.invariant.step.LookUps.{name_found}
 use Rattle.m3_laws.proofs.invariant.step.IssueEffects.{IssueEffect, NewPacket, issue_effect}
 use Rattle.m3_base.proofs.FlightOrder.{find-new}
 use Rattle.m3_laws.specs.Invariant.{Invariant}

@@ -12,9 +12,8 @@ use Rattle.m3_base.specs.Ideal.State.{State, context_of, Grant, holder}
 use Rattle.m3_base.specs.Ideal.Credits.{is_sent_by, gives_back_by, gives_back_in}
 use Rattle.m3_base.specs.Ideal.MessageTraces.{sent_in, flying_of}
 use Rattle.m3_base.specs.Ideal.FlightNames.{Apart, Distinct}
-use Rattle.m3_base.proofs.FlightNames.{same_name-is, same_name-itself}
+use Rattle.m3_base.proofs.FlightNames.{name_found, same_name-is, same_name-itself}
 use Rattle.m3_laws.specs.Invariant.{Invariant}
-use Rattle.m3_laws.proofs.invariant.step.LookUps.{name_found}
 use Rattle.m3_laws.proofs.grants.OpenWhileUsed.{message_held}
 use Rattle.m3_base.specs.Ideal.GrantHolder.{HeldThere}
 

@@ -25,7 +25,7 @@ use Rattle.m3_base.specs.Ideal.FlightNames.{Apart}
 use Rattle.m3_laws.specs.Laws.{AllFit}
 use Rattle.m3_laws.specs.Invariant.{Invariant}
 use Rattle.m3_laws.proofs.invariant.step.Invariant.{invariant_opening, invariant_after}
-use Rattle.m3_laws.proofs.invariant.step.LookUps.{name_found}
+use Rattle.m3_base.proofs.FlightNames.{name_found}
 use Rattle.m3_laws.proofs.invariant.step.LookUps.{found_ended}
 use Rattle.m3_laws.proofs.invariant.step.LookUps.{found_changed}
 use Rattle.m3_laws.proofs.invariant.step.LookUps.{found_new}

@@ -22,7 +22,8 @@ use Rattle.m3_base.specs.Ideal.FlightNames.{Apart}
 use Rattle.m3_laws.specs.Laws.{parent_at}
 use Rattle.m3_laws.specs.GrantInvariant.{IsHeldAt}
 use Rattle.m3_laws.specs.Invariant.{Invariant}
-use Rattle.m3_laws.proofs.invariant.step.LookUps.{name_found, found_after}
+use Rattle.m3_base.proofs.FlightNames.{name_found}
+use Rattle.m3_laws.proofs.invariant.step.LookUps.{found_after}
 use Rattle.m3_laws.proofs.invariant.step.LookUps.{found_ended}
 use Rattle.m3_laws.proofs.invariant.step.LookUps.{found_changed}
 use Rattle.m3_laws.proofs.invariant.step.LookUps.{found_new}

@@ -17,7 +17,7 @@ use Rattle.m3_laws.specs.Laws.{parent_at}
 use Rattle.m3_laws.specs.GrantInvariant.{IsHeldAt, FormLawful, form_of, ChildOf}
 use Rattle.m3_laws.specs.WellFormed.{CommandUse, use_of, use_in, use_by, expects, uses_send, uses_reply}
 use Rattle.m3_laws.specs.Invariant.{Invariant}
-use Rattle.m3_laws.proofs.invariant.step.LookUps.{name_found}
+use Rattle.m3_base.proofs.FlightNames.{name_found}
 use Rattle.m3_laws.proofs.credits.CreditReturns.{form_at}
 use Rattle.m3_laws.proofs.grants.RevokedIsGone.{refused_there}
 use Rattle.m3_pipe_laws.proofs.Invariant.Sides.{Sides}

@@ -16,7 +16,7 @@ use Rattle.m3_base.specs.Ideal.Context.{Kind, Replying, Reading, Fetched, Endpoi
 use Rattle.m3_base.specs.Ideal.ReceiveRecord.{without_token}
 use Rattle.m3_base.specs.Ideal.Landing.{land_refusal, landed_answer, message_id, after_message, context_after_answer, endpoint_after_answer, bytes_at}
 use Rattle.m3_base.specs.Ideal.State.{State, context_of, same_act}
-use Rattle.m3_laws.proofs.invariant.step.LookUps.{name_found}
+use Rattle.m3_base.proofs.FlightNames.{name_found}
 use Rattle.m3_laws.proofs.credits.Issue.{in_range}
 use Rattle.m3_laws.proofs.credits.Counting.{at_set}
 use Rattle.m3_pipe_laws.specs.Protocol.{WriterState, ReaderState, Waits, Reads, Replies, Closes, reader_step, reader_at_answer, reader_over, with_bytes, piece}

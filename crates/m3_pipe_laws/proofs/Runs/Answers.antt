@@ -17,7 +17,7 @@ use Rattle.m3_base.specs.Ideal.Landing.{flying_at, context_after_answer, written
 use Rattle.m3_base.specs.Ideal.State.{State, context_of}
 use Rattle.m3_base.specs.Ideal.Step.{IdealResult, step_to, land_in, message_in, credit_in, install_in, close_in, answered_in, answer_in, settle_in, Starts_closing, Closes_endpoint, after_ending}
 use Rattle.m3_laws.specs.Invariant.{Invariant}
-use Rattle.m3_laws.proofs.invariant.step.LookUps.{name_found}
+use Rattle.m3_base.proofs.FlightNames.{name_found}
 use Rattle.m3_pipe_laws.specs.Protocol.{WriterState, WriterPhase, Begins, Writes, Sends, Awaits, Fetches, Acknowledges, Over, writer_step, ReaderState, ReaderPhase, Starts, Waits, Looks, Reads, Replies, Closes, Finished, reader_step}
 use Rattle.m3_pipe_laws.specs.Pipe.{Player, next_player, bytes_if_written, bytes_if_read, Disjoint}
 use Rattle.m3_base.specs.Journal.Replies.{reply_of}

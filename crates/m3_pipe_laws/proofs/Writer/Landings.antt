@@ -14,8 +14,7 @@ use Rattle.m3_base.specs.Ideal.Context.{Sending, Writing, Endpoint, Free, Sends 
 use Rattle.m3_base.specs.Ideal.Landing.{land_refusal, landed_answer, message_id, with_message, after_message, with_credit, written_at}
 use Rattle.m3_base.specs.Ideal.State.{State, context_of, same_act}
 use Rattle.m3_base.proofs.KeyedList.{find-replaced_same}
-use Rattle.m3_base.proofs.FlightNames.{same_name-itself}
-use Rattle.m3_laws.proofs.invariant.step.LookUps.{name_found}
+use Rattle.m3_base.proofs.FlightNames.{name_found, same_name-itself}
 use Rattle.m3_laws.proofs.credits.Issue.{in_range}
 use Rattle.m3_pipe_laws.specs.Protocol.{WriterState, Writes, Sends, piece, ReaderState, ReaderPhase, Starts, Waits, Looks, Reads, Replies, Closes, Finished}
 use Rattle.m3_pipe_laws.specs.Pipe.{Player, endpoint_in}

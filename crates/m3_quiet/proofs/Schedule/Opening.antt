@@ -3,6 +3,7 @@ use Rattle.std.proofs.Common.{◌≡◌, ℕ, zero, suc, Bool, true, false, List
 use Rattle.std.specs.Prelude.{Option, if◌then◌else◌, ◌==◌, ◌&&◌, slice_index_or}
 use Rattle.std.specs.List.{list_any}
 use Rattle.std.proofs.lemmas.Bool.Decides.{nat_tests}
+use Rattle.m3_base.proofs.ListLookups.{get_replicated}
 use Rattle.m3_base.specs.declared.setup_line.SetupLine.{SetupLine}
 use Rattle.m3_base.specs.Lists.Keyed as keyed
 use Rattle.m3_base.specs.Placement.State.{Placement, PlacedActivity, actor, actor_act, is_resting, ready_at, join_ready, with_member, Placed, Resting}
@@ -143,11 +144,6 @@ no_yield a zero k = refl
 no_yield a (suc n) zero = refl
 no_yield a (suc n) (suc k) = no_yield a n k
 
-not_taken : (n k : ℕ) → get_or (replicate n false) k false ≡ false
-not_taken zero k = refl
-not_taken (suc n) zero = refl
-not_taken (suc n) (suc k) = not_taken n k
-
 no_ready : (a n t : ℕ) → is_listed a (get_or (replicate n []) t []) ≡ false
 no_ready a zero t = refl
 no_ready a (suc n) zero = refl
@@ -166,7 +162,7 @@ schedule_opens ps lines fine quantum = by_open (opens-lines ps _ lines start fin
       ready = λ t a x h e. rests t a x e (ok.ready t a h);
       yields = λ k a x h e. absurd (silent k a h);
       sent = λ k a x h e placed. absurd (silent k a h);
-      taken = λ a x h e placed. absurd (let none : slice_index_or (opening_placement ps lines).yielded x.home false ≡ false = subst (λ ys. get_or ys x.home false ≡ false) (sym ok.yielded) (not_taken 16 x.home) in cc);
+      taken = λ a x h e placed. absurd (let none : slice_index_or (opening_placement ps lines).yielded x.home false ≡ false = subst (λ ys. get_or ys x.home false ≡ false) (sym ok.yielded) (get_replicated 16 x.home false) in cc);
     }
       where
         rests : (t a : ℕ) (x : PlacedActivity) → actor a (opening_placement ps lines) ≡ Some x → Rests (opening_placement ps lines) t a → (x.home ≡ t) × (is_resting x.place ≡ true)

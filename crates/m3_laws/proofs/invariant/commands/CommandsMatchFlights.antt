@@ -10,7 +10,7 @@ use Rattle.m3_base.specs.Ideal.State.{State, context_of}
 use Rattle.m3_laws.specs.WellFormed.{use_by, use_in, use_of, expects, uses_send, uses_reply}
 use Rattle.m3_laws.specs.Invariant.{Invariant, InvariantMatches}
 use Rattle.m3_laws.specs.CommandFlights.{AreZeros, IsFlightOf, HasFlight, CommandOf, HasCommand}
-use Rattle.m3_laws.proofs.invariant.step.LookUps.{name_found}
+use Rattle.m3_base.proofs.FlightNames.{name_found}
 use Rattle.m3_base.proofs.Activities.{act_found}
 
 -- no packet of a command is expected where no command is

@@ -22,12 +22,12 @@ use Rattle.m3_base.specs.Ideal.Step.{Starts_closing, Closes_endpoint, Sends_clos
 use Rattle.m3_base.specs.Ideal.Acceptance.{is_answer_for, is_land_refusal}
 use Rattle.m3_base.proofs.KeyedList.{find-replaced_same}
 use Rattle.m3_base.specs.Ideal.FlightNames.{Apart}
-use Rattle.m3_base.proofs.FlightNames.{same_name-is, same_name-itself, flight-change, flight-end}
+use Rattle.m3_base.proofs.FlightNames.{name_found, same_name-is, same_name-itself, flight-change, flight-end}
 use Rattle.m3_laws.specs.GrantInvariant.{GrantInvariant}
 use Rattle.m3_laws.specs.WellFormed.{WellFormed}
 use Rattle.m3_laws.specs.CommandFlights.{IsSentBy, IsReplyTo, IsFlightOf, HasFlight, AllFly, ContextInOrder, CommandsInOrder}
 use Rattle.m3_laws.proofs.credits.Land.{after_landing}
-use Rattle.m3_laws.proofs.invariant.step.LookUps.{name_found, found_after}
+use Rattle.m3_laws.proofs.invariant.step.LookUps.{found_after}
 use Rattle.m3_laws.proofs.invariant.records.RecordsOfGrants.{install_free}
 use Rattle.m3_laws.proofs.invariant.records.ClosingRecords.{to_closed}
 use Rattle.m3_laws.proofs.invariant.wellformed.LandKeeps.{refusal_lands, take_short}

@@ -23,7 +23,7 @@ use Rattle.m3_laws.specs.Laws.{limit_of, is_close_of}
 use Rattle.m3_laws.specs.GrantInvariant.{IsHeldAt, FormLawful, form_of, is_open_grant, is_close_sent, CreditsLawful}
 use Rattle.m3_laws.specs.WellFormed.{use_by, use_in, can_get, is_held_at}
 use Rattle.m3_laws.specs.Invariant.{Invariant}
-use Rattle.m3_laws.proofs.invariant.step.LookUps.{name_found}
+use Rattle.m3_base.proofs.FlightNames.{name_found}
 use Rattle.m3_laws.proofs.credits.Counting.{some_at, some_found, one_found}
 use Rattle.m3_laws.proofs.invariant.records.RecordsOfGrants.{record_open, closing_sent, install_free, is_one, one_less}
 use Rattle.m3_laws.proofs.credits.CreditReturns.{Each, each_found, found_lone, form_at}

@@ -8,17 +8,9 @@ use Rattle.m3_base.specs.Ideal.State.{context_of, put_context, same_act}
 use Rattle.m3_base.proofs.KeyedList.{find-replaced_same}
 use Rattle.m3_base.specs.declared.ids.FlightId.{FlightId}
 use Rattle.m3_base.specs.Ideal.FlightNames.{Apart, Distinct}
-use Rattle.m3_base.proofs.FlightNames.{same_name-is, flight-new, same_name-itself, flight-change}
+use Rattle.m3_base.proofs.FlightNames.{name_found, same_name-is, flight-new, same_name-itself, flight-change}
 use Rattle.m3_base.proofs.FlightOrder.{find-new}
 use Rattle.m3_base.proofs.Activities.{same_act-is, context-put_same, context-put_other}
-
-pub name_found : (id : FlightId) (p : Packet) (fs : List Packet) → flight id fs ≡ Some p → id ≡ name_of p
-name_found id p [] e = absurd (cc)
-name_found id p (x ∷ fs) e = by_case (same_name id (name_of x)) refl (name_found id p fs)
-  where
-    by_case : (b : Bool) → same_name id (name_of x) ≡ b → (flight id fs ≡ Some p → id ≡ name_of p) → id ≡ name_of p
-    by_case true w ih = let same : x ≡ p = grind (arith, e, w) in same_name-is id (name_of x) w ∙ ap name_of same
-    by_case false w ih = ih (grind (arith, e, w))
 
 pub name_own : (id : FlightId) (p : Packet) (fs : List Packet) → flight id fs ≡ Some p → flight (name_of p) fs ≡ Some p
 name_own id p fs find = subst (λ z. flight z fs ≡ Some p) (name_found id p fs find) find

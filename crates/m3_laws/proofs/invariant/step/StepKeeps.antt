@@ -12,7 +12,7 @@ use Rattle.m3_base.specs.Ideal.Context.{Flying, Free, Context, endpoint, with_en
 use Rattle.m3_base.specs.Ideal.Landing.{land_refusal, flying_at, closed_at, has_live, has_closing, flies_at, bytes_at, written_at}
 use Rattle.m3_base.specs.Ideal.State.{Standing, Live, Closing, Closed, Done, Grant, State, context_of, put_context, grant_in, holder, holder_ep, parent_of, parent_in, undone}
 use Rattle.m3_base.specs.Ideal.GrantRules.{form, make_refusal, may_close, close_sent, change_grant, kernel_id, is_outside, fresh_of, is_more, is_crowded, revoke_refusal, first_no, is_closed_grant, to_done}
-use Rattle.m3_laws.proofs.invariant.step.LookUps.{name_found}
+use Rattle.m3_base.proofs.FlightNames.{name_found}
 use Rattle.m3_laws.specs.GrantInvariant.{GrantInvariant}
 use Rattle.m3_laws.proofs.invariant.records.ClosingRecords.{to_closed}
 use Rattle.m3_base.specs.declared.command.Command.{Command}

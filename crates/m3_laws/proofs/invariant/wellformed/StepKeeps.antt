@@ -26,7 +26,7 @@ use Rattle.m3_base.specs.Setup.Rules.{Facts, SetupValue, IsValid, AllKept, InRan
 use Rattle.m3_base.specs.Limits.{is_in_limits}
 use Rattle.m3_base.proofs.SetupValidity.{grant_allowed}
 use Rattle.m3_base.proofs.SetupObligations.{Ties, obeys, ties, tied_at_first}
-use Rattle.m3_laws.proofs.invariant.step.LookUps.{name_found}
+use Rattle.m3_base.proofs.FlightNames.{name_found}
 use Rattle.m3_laws.specs.GrantInvariant.{GrantInvariant}
 use Rattle.m3_laws.proofs.invariant.records.RecordsOfGrants.{install_free}
 use Rattle.m3_laws.proofs.invariant.records.ClosingRecords.{to_closed}
