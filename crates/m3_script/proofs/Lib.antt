@@ -10,3 +10,4 @@ pub mod ListedLines
 pub mod GrantRanges
 pub mod NamedEvents
 pub mod LineLoop
+pub mod QuickForms

@@ -12,3 +12,4 @@ pub mod ParserView
 pub mod ScriptText
 pub mod LineForms
 pub mod CommandForms
+pub mod QuickForms

@@ -11,6 +11,7 @@ mod line;
 mod moves;
 mod orders;
 mod parsing;
+mod quick;
 mod reading;
 mod rules;
 mod script;

@@ -5,9 +5,8 @@ ghost use Rattle.m3_script.specs.Rules.{AllBuilt, AllInRanges, AllListed, AllNam
 ghost use Rattle.m3_script.specs.ScriptText.{script_of, script_at_end};
 ghost use Rattle.m3_script.specs.ParserView.{Parses, refusal, state};
 
-use crate::reading::{ParseOptions, ParserState, read_line};
+use crate::reading::{ParseOptions, ParserState, read_first};
 use crate::script::{Mode, Script, ScriptRefusal};
-use m3_text::lines::cut_line;
 use m3_text::refusal::{LineRefusal, Why};
 use std::alloc::Global;
 
@@ -27,12 +26,10 @@ pub fn parse(alloc: Global, bytes: &[u8], mode: Mode, boxes: u32) -> Result<Scri
     let mut rest = bytes;
     let mut line: u32 = 1;
     while !rest.is_empty() {
-        let (text, after) = cut_line(rest);
-        match read_line(alloc, options, &mut parser, text, &mut words) {
-            Ok(()) => {}
+        match read_first(alloc, options, &mut parser, rest, &mut words) {
+            Ok(after) => rest = after,
             Err(error) => return Err(refusal(line, error)),
         }
-        rest = after;
         line += 1;
     }
     script_at_end(parser, line)

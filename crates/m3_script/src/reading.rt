@@ -1,18 +1,21 @@
 //! A script while it is read.
 
-ghost use Rattle.std.specs.Prelude.{◌≡◌};
+ghost use Rattle.std.specs.Prelude.{◌≡◌, ℕ, ◌<◌, IfOk, IfSome, Ok, length};
+ghost use Rattle.std.specs.Option.{MatchOption};
 ghost use Rattle.m3_text.specs.Lines.{texts};
 ghost use Rattle.m3_text.specs.Refusable.{Gives};
 ghost use Rattle.m3_script.specs.ScriptText.{state_with_machine, state_with_line, Running, events_with, after_first_line, after_setup_line, after_event_line, after_words, words_of_line, after_line, is_skipped};
+ghost use Rattle.m3_script.specs.QuickForms.{ReadsFirst};
 ghost use Rattle.m3_script.specs.ParserView.{state, IsBefore, Leads};
 
 use crate::line::{Line, read_form};
+use crate::quick::cut_event;
 use crate::rules::{is_allowed, lacks_logic, names_undeclared};
 use crate::script::Mode;
 use m3_base::event::Event;
 use m3_base::setup::{Setup, SetupRefusal};
 use m3_base::setup_line::SetupLine;
-use m3_text::lines::{cut_words, is_plain};
+use m3_text::lines::{cut_line, cut_words, is_plain};
 use m3_text::refusal::{LineRefusal, Why};
 use std::alloc::Global;
 use std::mem;
@@ -36,6 +39,76 @@ pub struct ParseOptions {
 
 // The most words that a form has.
 const MOST_WORDS: usize = 13;
+
+/// Takes in the first line of a text, and answers what follows it. A line that is refused ends the reading, so that
+/// nothing is said of `parser` then.
+#[inline(always)]
+pub fn read_first<'a>(
+    alloc: Global,
+    options: ParseOptions,
+    parser: &mut ParserState,
+    text: &'a [u8],
+    words: &mut Vec<&'a [u8]>,
+) -> Result<&'a [u8], LineRefusal>
+    requires { 0 < length text.now }
+    ensures reads { ReadsFirst options.mode options.boxes text.now (state parser.old) result (state parser.new) }
+    ensures shorter { IfOk result (λ rest. length rest.now < length text.now) }
+{
+    match read_quickly(alloc, options.mode, parser, text) {
+        Some(after) => Ok(after),
+        None => {
+            let (line, after) = cut_line(text);
+            read_line(alloc, options, parser, line, words)?;
+            Ok(after)
+        }
+    }
+}
+
+// Takes in the first line where it is an event that is read without its words. Else nothing has changed.
+#[inline(always)]
+fn read_quickly<'a>(
+    alloc: Global,
+    mode: Mode,
+    parser: &mut ParserState,
+    text: &'a [u8],
+) -> Option<&'a [u8]>
+    ensures reads { MatchOption result (state parser.new ≡ state parser.old) (λ rest. (boxes : ℕ) →
+        ReadsFirst mode boxes text.now (state parser.old) (Ok rest) (state parser.new)) }
+    ensures shorter { IfSome result (λ rest. length rest.now < length text.now) }
+{
+    match parser {
+        ParserState::Running(setup, events) => read_quick_event(alloc, mode, setup, events, text),
+        _ => None,
+    }
+}
+
+#[tactic(auto, using(crate::proofs::QuickForms::event_shorter))]
+#[inline(always)]
+fn read_quick_event<'a>(
+    alloc: Global,
+    mode: Mode,
+    setup: &Setup,
+    events: &mut Vec<Event>,
+    text: &'a [u8],
+) -> Option<&'a [u8]>
+    ensures reads { MatchOption result (events.new.items ≡ events.old.items) (λ rest. (boxes : ℕ) →
+        ReadsFirst mode boxes text.now (Running setup.now events.old.items) (Ok rest)
+        (Running setup.now events.new.items)) }
+    ensures shorter { IfSome result (λ rest. length rest.now < length text.now) }
+{
+    let (event, after) = cut_event(alloc, text)?;
+    let allowed = is_allowed(mode, events.as_slice(), &event);
+    if !allowed {
+        return None;
+    }
+    if names_undeclared(setup, &event) {
+        return None;
+    }
+    match events.push(event) {
+        Ok(()) => Some(after),
+        Err(_) => None,
+    }
+}
 
 /// Takes in one line more. A line that is refused ends the reading, so that nothing is said of `parser` then.
 #[tactic(auto, using(crate::proofs::WordLimit::skipped_by_few, crate::proofs::WordLimit::taken_by_few), unfolding(crate::specs::ScriptText::after_line))]

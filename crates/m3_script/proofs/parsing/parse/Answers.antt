@@ -6,22 +6,27 @@ use Rattle.m3_script.proofs.NamedEvents.{built_of, listed_of, named_of, orders_o
 use Rattle.m3_script.proofs.parsing.parse.Goals as goal
 
 pub returns-in-Err : goal.returns-in-Err
-returns-in-Err c = record {
-  exact = rw c.refusal.ensures (is_refused c.args.mode c.args.boxes c.loop-rest.rest.now c.cut_line.result.0.now c.cut_line.result.1.now (state c.loop-rest.parser) c.loop-rest.line c.in-Err.error
-      (script_of c.args.mode c.args.boxes c.args.bytes.now) c.cut_line.ensures.line c.in-Err.ensures c.loop-rest.invariant.reads);
-  named = tt;
-  ranges = tt;
-  built = tt;
-  orders = tt;
-  listed = tt;
-}
+returns-in-Err c =
+    let read = c.in-Err.ensures.reads in
+    record {
+      exact = rw c.refusal.ensures (is_refused c.args.mode c.args.boxes c.loop-rest.rest.now read.0 read.1 (state c.loop-rest.parser) c.loop-rest.line c.in-Err.error
+          (script_of c.args.mode c.args.boxes c.args.bytes.now) read.2 read.3 c.loop-rest.invariant.reads);
+      named = tt;
+      ranges = tt;
+      built = tt;
+      orders = tt;
+      listed = tt;
+    }
 
 pub loop-rest-preserved : goal.loop-rest-preserved
-loop-rest-preserved c = record {
-  reads = goes_on c.args.mode c.args.boxes c.loop-rest.rest.now c.cut_line.result.0.now c.cut_line.result.1.now (state c.loop-rest.parser) (state c.read_line.new.parser) c.loop-rest.line
-      (script_of c.args.mode c.args.boxes c.args.bytes.now) c.cut_line.ensures.line c.in-Ok.ensures c.loop-rest.invariant.reads;
-  room = omega (arith, c.cut_line.ensures.shorter);
-}
+loop-rest-preserved c =
+    let read = c.in-Ok.ensures.reads in
+    let shorter = c.in-Ok.ensures.shorter in
+    record {
+      reads = goes_on c.args.mode c.args.boxes c.loop-rest.rest.now read.0 c.in-Ok.after.now (state c.loop-rest.parser) (state c.read_first.new.parser) c.loop-rest.line
+          (script_of c.args.mode c.args.boxes c.args.bytes.now) read.1 read.2 c.loop-rest.invariant.reads;
+      room = omega (arith, shorter);
+    }
 
 pub returns : goal.returns
 returns c =

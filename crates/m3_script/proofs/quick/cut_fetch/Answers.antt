@@ -1,0 +1,6 @@
+use Rattle.m3_script.proofs.QuickForms.{fetch_front}
+use Rattle.m3_script.proofs.quick.cut_fetch.Goals as goal
+
+pub returns : goal.returns
+returns c =
+    rw c.new.ensures (fetch_front c.args.text.now c.in_ok-ep.rest.now c.in_ok-rest.rest.now c.in_ok-ep.ep c.in_ok-ep.ensures.most c.in_ok-ep.ensures.text c.in_ok-rest.ensures)
