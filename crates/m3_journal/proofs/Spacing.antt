@@ -1,6 +1,7 @@
 -- Words behind a space, and the same as a line.
 use Rattle.std.proofs.Common.{◌≡◌, ℕ, List, [], ◌∷◌, ◌++◌, refl, ◌∙◌, append_assoc}
 use Rattle.std.proofs.lemmas.Grind.{flat_map-append}
+use Rattle.std.proofs.lemmas.List.{append-nil}
 use Rattle.m3_base.specs.declared.order.GrantLine.{GrantLine}
 use Rattle.m3_base.specs.declared.order.GrantLine.TheVariants.{Recv, Send, Range, Part}
 use Rattle.m3_text.specs.Printing.{words_text, line_text, text_of_lines}
@@ -31,3 +32,8 @@ line_of_three old a b new w ws xs ys first second third =
 
 pub text_more : (ls more : List (List ℕ)) → text_of_lines (ls ++ more) ≡ text_of_lines ls ++ text_of_lines more
 text_more ls more = flat_map-append (λ (l : List ℕ). l ++ 10 ∷ []) ls more
+
+-- two texts that are put, each with a value right behind it
+pub two_fields : (old mid new a x b y : List ℕ) → mid ≡ old ++ (a ++ x) → new ≡ mid ++ (b ++ y) → new ≡ old ++ (a ++ (x ++ (b ++ (y ++ []))))
+two_fields old mid new a x b y first second =
+    second ∙ rw (first, append-nil y, append_assoc old (a ++ x) (b ++ y), append_assoc a x (b ++ y)) refl

@@ -7,8 +7,8 @@ ghost use Rattle.m3_journal.specs.JournalText.{audit_line};
 
 use m3_base::ids::ActId;
 use m3_base::journal::AuditLine;
+use m3_text::printing::put_field;
 use std::alloc::AllocError;
-use std::fmt::Write;
 
 fn put_current(out: &mut String, act: Option<ActId>) -> Result<(), AllocError>
     ensures { OnOk result (string_bytes out.new ≡ string_bytes out.old ++ words_text (current_words act)) }
@@ -17,7 +17,7 @@ fn put_current(out: &mut String, act: Option<ActId>) -> Result<(), AllocError>
         None => out.push_str(" none"),
         Some(act) => {
             let act = act.number();
-            write!(out, " act {act}")
+            put_field(out, " act ", act as u64)
         }
     }
 }
@@ -37,10 +37,10 @@ fn put_counts(
 ) -> Result<(), AllocError>
     ensures { OnOk result (string_bytes out.new ≡ string_bytes out.old ++ words_text (count_words held flying queued limit)) }
 {
-    write!(
-        out,
-        " held {held} flying {flying} queued {queued} limit {limit}"
-    )
+    put_field(out, " held ", held as u64)?;
+    put_field(out, " flying ", flying as u64)?;
+    put_field(out, " queued ", queued as u64)?;
+    put_field(out, " limit ", limit as u64)
 }
 
 pub fn put_audit_line(out: &mut String, line: &AuditLine) -> Result<(), AllocError>
@@ -55,15 +55,15 @@ pub fn put_audit_line(out: &mut String, line: &AuditLine) -> Result<(), AllocErr
             limit,
         } => {
             let grant = grant.number();
-            write!(out, "audit credit {grant}")?;
+            put_field(out, "audit credit ", grant as u64)?;
             put_counts(out, *held, *flying, *queued, *limit)
         }
         AuditLine::Tile { tile, act } => {
             let tile = tile.number();
-            write!(out, "audit tile {tile}")?;
+            put_field(out, "audit tile ", tile as u64)?;
             put_current(out, *act)
         }
-        AuditLine::Flights(count) => write!(out, "audit flights {count}"),
+        AuditLine::Flights(count) => put_field(out, "audit flights ", *count as u64),
         AuditLine::Quiet(quiet) => {
             out.push_str("audit quiet ")?;
             out.push_str(yes_word(*quiet))

@@ -6,17 +6,20 @@ ghost use Rattle.m3_journal.specs.Commands.{optional, command_words};
 
 use m3_base::command::Command;
 use m3_base::ids::{ActId, EpId, GrantId};
-use m3_text::printing::put_hex;
+use m3_text::printing::{put_field, put_hex, put_word};
 use std::alloc::AllocError;
-use std::fmt::Write;
 
 /// A number behind its word, where there is one.
+#[inline(always)]
 pub fn put_optional(out: &mut String, name: &str, number: Option<u16>) -> Result<(), AllocError>
     ensures { OnOk result (string_bytes out.new ≡ string_bytes out.old ++ words_text (optional name.now number)) }
 {
     match number {
         None => Ok(()),
-        Some(number) => write!(out, " {name} {number}"),
+        Some(number) => {
+            put_word(out, name)?;
+            put_field(out, " ", number as u64)
+        }
     }
 }
 
@@ -53,30 +56,38 @@ pub fn put_command(out: &mut String, command: &Command) -> Result<(), AllocError
     match command {
         Command::Send { ep, payload, reply } => {
             let ep = ep.number();
-            write!(out, " send {ep} ")?;
+            put_field(out, " send ", ep as u64)?;
+            out.push_str(" ")?;
             put_hex(out, payload.bytes())?;
             put_optional(out, "reply", ep_number(*reply))
         }
         Command::Reply { ep, token, payload } => {
             let ep = ep.number();
-            write!(out, " reply {ep} {token} ")?;
+            put_field(out, " reply ", ep as u64)?;
+            put_field(out, " ", *token as u64)?;
+            out.push_str(" ")?;
             put_hex(out, payload.bytes())
         }
         Command::Fetch { ep } => {
             let ep = ep.number();
-            write!(out, " fetch {ep}")
+            put_field(out, " fetch ", ep as u64)
         }
         Command::Acknowledge { ep, token } => {
             let ep = ep.number();
-            write!(out, " ack {ep} {token}")
+            put_field(out, " ack ", ep as u64)?;
+            put_field(out, " ", *token as u64)
         }
         Command::Read { ep, off, len } => {
             let ep = ep.number();
-            write!(out, " read {ep} {off} {len}")
+            put_field(out, " read ", ep as u64)?;
+            put_field(out, " ", *off as u64)?;
+            put_field(out, " ", *len as u64)
         }
         Command::Write { ep, off, payload } => {
             let ep = ep.number();
-            write!(out, " write {ep} {off} ")?;
+            put_field(out, " write ", ep as u64)?;
+            put_field(out, " ", *off as u64)?;
+            out.push_str(" ")?;
             put_hex(out, payload.bytes())
         }
     }

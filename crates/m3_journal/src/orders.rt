@@ -6,8 +6,8 @@ ghost use Rattle.m3_journal.specs.Orders.{perm_word, extent_words, grant_words, 
 
 use m3_base::order::{FileLine, GrantLine, Order};
 use m3_base::packet::Perm;
+use m3_text::printing::{put_field, put_word};
 use std::alloc::AllocError;
-use std::fmt::Write;
 
 fn perm_word(perm: Perm) -> &'static str
     ensures { result.now ≡ perm_word perm }
@@ -23,7 +23,10 @@ pub fn put_extent(out: &mut String, at: u32, len: u32, perm: Perm) -> Result<(),
     ensures { OnOk result (string_bytes out.new ≡ string_bytes out.old ++ words_text (extent_words at len perm)) }
 {
     let perm = perm_word(perm);
-    write!(out, " at {at} len {len} perm {perm}")
+    put_field(out, " at ", at as u64)?;
+    put_field(out, " len ", len as u64)?;
+    out.push_str(" perm")?;
+    put_word(out, perm)
 }
 
 pub fn put_grant(out: &mut String, line: &GrantLine) -> Result<(), AllocError>
@@ -38,7 +41,10 @@ pub fn put_grant(out: &mut String, line: &GrantLine) -> Result<(), AllocError>
         } => {
             let act = act.number();
             let ep = ep.number();
-            write!(out, "recv {act} {ep} slots {slots} size {size}")
+            put_field(out, "recv ", act as u64)?;
+            put_field(out, " ", ep as u64)?;
+            put_field(out, " slots ", *slots as u64)?;
+            put_field(out, " size ", *size as u64)
         }
         GrantLine::Send {
             act,
@@ -50,10 +56,11 @@ pub fn put_grant(out: &mut String, line: &GrantLine) -> Result<(), AllocError>
             let act = act.number();
             let ep = ep.number();
             let of = of.number();
-            write!(
-                out,
-                "send {act} {ep} of {of} label {label} credits {credits}"
-            )
+            put_field(out, "send ", act as u64)?;
+            put_field(out, " ", ep as u64)?;
+            put_field(out, " of ", of as u64)?;
+            put_field(out, " label ", *label)?;
+            put_field(out, " credits ", *credits as u64)
         }
         GrantLine::Range {
             act,
@@ -64,7 +71,8 @@ pub fn put_grant(out: &mut String, line: &GrantLine) -> Result<(), AllocError>
         } => {
             let act = act.number();
             let ep = ep.number();
-            write!(out, "range {act} {ep}")?;
+            put_field(out, "range ", act as u64)?;
+            put_field(out, " ", ep as u64)?;
             put_extent(out, *at, *len, *perm)
         }
         GrantLine::Part {
@@ -78,7 +86,9 @@ pub fn put_grant(out: &mut String, line: &GrantLine) -> Result<(), AllocError>
             let act = act.number();
             let ep = ep.number();
             let of = of.number();
-            write!(out, "part {act} {ep} of {of}")?;
+            put_field(out, "part ", act as u64)?;
+            put_field(out, " ", ep as u64)?;
+            put_field(out, " of ", of as u64)?;
             put_extent(out, *at, *len, *perm)
         }
     }
@@ -92,7 +102,8 @@ pub fn put_order(out: &mut String, order: &Order) -> Result<(), AllocError>
         Order::Switch { tile, act } => {
             let tile = tile.number();
             let act = act.number();
-            write!(out, "switch {tile} {act}")
+            put_field(out, "switch ", tile as u64)?;
+            put_field(out, " ", act as u64)
         }
         Order::Grant(line) => {
             out.push_str("grant ")?;
@@ -100,7 +111,7 @@ pub fn put_order(out: &mut String, order: &Order) -> Result<(), AllocError>
         }
         Order::Revoke(grant) => {
             let grant = grant.number();
-            write!(out, "revoke {grant}")
+            put_field(out, "revoke ", grant as u64)
         }
     }
 }
@@ -111,15 +122,19 @@ pub fn put_file(out: &mut String, line: &FileLine) -> Result<(), AllocError>
     match line {
         FileLine::Create(name) => {
             let name = name.text();
-            write!(out, "file create {name}")
+            out.push_str("file create")?;
+            put_word(out, name)
         }
         FileLine::Extend(name, bytes) => {
             let name = name.text();
-            write!(out, "file extend {name} {bytes}")
+            out.push_str("file extend")?;
+            put_word(out, name)?;
+            put_field(out, " ", *bytes as u64)
         }
         FileLine::Remove(name) => {
             let name = name.text();
-            write!(out, "file remove {name}")
+            out.push_str("file remove")?;
+            put_word(out, name)
         }
         FileLine::Open {
             name,
@@ -132,11 +147,16 @@ pub fn put_file(out: &mut String, line: &FileLine) -> Result<(), AllocError>
             let act = act.number();
             let ep = ep.number();
             let perm = perm_word(*perm);
-            write!(out, "file open {name} {off} {act} {ep} {perm}")
+            out.push_str("file open")?;
+            put_word(out, name)?;
+            put_field(out, " ", *off as u64)?;
+            put_field(out, " ", act as u64)?;
+            put_field(out, " ", ep as u64)?;
+            put_word(out, perm)
         }
         FileLine::Close(grant) => {
             let grant = grant.number();
-            write!(out, "file close {grant}")
+            put_field(out, "file close ", grant as u64)
         }
     }
 }

@@ -1,16 +1,15 @@
 //! The words of outcomes, each behind a space.
 
 ghost use Rattle.std.specs.Prelude.{◌≡◌, ◌∷◌, ◌++◌, [], decimal, OnOk, string_bytes};
-ghost use Rattle.m3_text.specs.Printing.{words_text, flight_word};
+ghost use Rattle.m3_text.specs.Printing.{words_text, line_text, flight_word};
 ghost use Rattle.m3_journal.specs.Outcomes.{refusal_words, answer_words, answered_words, idle_word, no_word, way_word, acknowledged_words, message_words, said_words, outcome_words};
 
 use crate::commands::{act_number, grant_number, put_optional};
 use m3_base::command::{Answer, Refusal};
 use m3_base::event::{IdleWhy, No, Outcome, Said};
 use m3_base::ids::{ActId, FlightId, GrantId};
-use m3_text::printing::{put_flight, put_hex};
+use m3_text::printing::{put_field, put_flight, put_hex, put_word};
 use std::alloc::AllocError;
-use std::fmt::Write;
 
 fn refusal_text(why: Refusal) -> &'static str
     ensures { result.now ≡ words_text (refusal_words why) }
@@ -94,59 +93,59 @@ fn put_acknowledged(out: &mut String, credit: Option<FlightId>) -> Result<(), Al
 {
     match credit {
         None => out.push_str(" acknowledged"),
-        Some(id) => put_named(out, "acknowledged credit", id),
+        Some(id) => put_named(out, " acknowledged credit ", id),
     }
 }
 
-// A word and a flight's name.
-fn put_named(out: &mut String, name: &str, id: FlightId) -> Result<(), AllocError>
-    ensures { OnOk result (string_bytes out.new ≡ string_bytes out.old ++ words_text (name.now ∷ flight_word id ∷ [])) }
+// A text, and a flight's name right behind it.
+#[inline(always)]
+fn put_named(out: &mut String, text: &str, id: FlightId) -> Result<(), AllocError>
+    ensures { OnOk result (string_bytes out.new ≡ string_bytes out.old ++ (text.now ++ line_text (flight_word id ∷ []))) }
 {
-    write!(out, " {name} ")?;
+    out.push_str(text)?;
     put_flight(out, id)
 }
 
-// A word, a flight's name and a grant.
+// A text, and right behind it a flight's name and a grant.
+#[inline(always)]
 fn put_of_grant(
     out: &mut String,
-    name: &str,
+    text: &str,
     id: FlightId,
     grant: GrantId,
 ) -> Result<(), AllocError>
-    ensures { OnOk result (string_bytes out.new ≡ string_bytes out.old ++ words_text
-        (name.now ∷ flight_word id ∷ decimal grant ∷ [])) }
+    ensures { OnOk result (string_bytes out.new ≡ string_bytes out.old ++ (text.now ++ line_text
+        (flight_word id ∷ decimal grant ∷ []))) }
 {
-    let grant = grant.number();
-    put_named(out, name, id)?;
-    write!(out, " {grant}")
+    put_named(out, text, id)?;
+    put_field(out, " ", grant.number() as u64)
 }
 
-// A word and an activity.
-fn put_of_act(out: &mut String, name: &str, act: ActId) -> Result<(), AllocError>
-    ensures { OnOk result (string_bytes out.new ≡ string_bytes out.old ++ words_text (name.now ∷ decimal act ∷ [])) }
+// A text, and right behind it an activity.
+#[inline(always)]
+fn put_of_act(out: &mut String, text: &str, act: ActId) -> Result<(), AllocError>
+    ensures { OnOk result (string_bytes out.new ≡ string_bytes out.old ++ (text.now ++ line_text (decimal act ∷ []))) }
 {
-    let act = act.number();
-    write!(out, " {name} {act}")
+    put_field(out, text, act.number() as u64)
 }
 
-// A word, a grant, and the flight of the packet that went out for it.
+// A text, and right behind it a grant, and the flight of the packet that went out for it.
 fn put_order_sent(
     out: &mut String,
-    name: &str,
+    text: &str,
     grant: GrantId,
     id: FlightId,
     held: bool,
 ) -> Result<(), AllocError>
-    ensures { OnOk result (string_bytes out.new ≡ string_bytes out.old ++ words_text
-        (name.now ∷ decimal grant ∷ flight_word id ∷ way_word held ∷ [])) }
+    ensures { OnOk result (string_bytes out.new ≡ string_bytes out.old ++ (text.now ++ line_text
+        (decimal grant ∷ flight_word id ∷ way_word held ∷ []))) }
 {
-    let grant = grant.number();
-    write!(out, " {name} {grant} ")?;
-    put_flight(out, id)?;
-    let way = way_word(held);
-    write!(out, " {way}")
+    put_field(out, text, grant.number() as u64)?;
+    put_named(out, " ", id)?;
+    put_word(out, way_word(held))
 }
 
+#[inline(always)]
 fn put_message(
     out: &mut String,
     kind: &str,
@@ -158,8 +157,11 @@ fn put_message(
     ensures { OnOk result (string_bytes out.new ≡ string_bytes out.old ++ words_text
         (message_words kind.now token from label payload.now)) }
 {
-    let from = from.number();
-    write!(out, " {kind} {token} from {from} label {label} ")?;
+    put_word(out, kind)?;
+    put_field(out, " ", token as u64)?;
+    put_field(out, " from ", from.number() as u64)?;
+    put_field(out, " label ", label)?;
+    out.push_str(" ")?;
     put_hex(out, payload)
 }
 
@@ -171,7 +173,7 @@ fn put_answered(
 ) -> Result<(), AllocError>
     ensures { OnOk result (string_bytes out.new ≡ string_bytes out.old ++ words_text (answered_words id answer.now closed)) }
 {
-    put_named(out, "answered", id)?;
+    put_named(out, " answered ", id)?;
     put_answer(out, answer)?;
     put_optional(out, "closed", grant_number(closed))
 }
@@ -180,7 +182,7 @@ fn put_said(out: &mut String, said: &Said) -> Result<(), AllocError>
     ensures { OnOk result (string_bytes out.new ≡ string_bytes out.old ++ words_text (said_words said.now)) }
 {
     match said {
-        Said::Flying(id) => put_named(out, "flying", *id),
+        Said::Flying(id) => put_named(out, " flying ", *id),
         Said::Message {
             token,
             from,
@@ -207,50 +209,52 @@ fn put_said(out: &mut String, said: &Said) -> Result<(), AllocError>
             out.push_str(" idle ")?;
             out.push_str(idle_word(*why))
         }
-        Said::Landed(id) => put_named(out, "landed", *id),
+        Said::Landed(id) => put_named(out, " landed ", *id),
         Said::LandRefused(id, why) => {
-            put_named(out, "refused", *id)?;
+            put_named(out, " refused ", *id)?;
             out.push_str(refusal_text(*why))
         }
         Said::Answered { id, answer, closed } => put_answered(out, *id, answer, *closed),
-        Said::Credited(id, grant) => put_of_grant(out, "credited", *id, *grant),
-        Said::Discarded(id, grant) => put_of_grant(out, "discarded", *id, *grant),
-        Said::Installed(id, grant) => put_of_grant(out, "installed", *id, *grant),
-        Said::Closing(id, grant) => put_of_grant(out, "closing", *id, *grant),
-        Said::Closed(id, grant) => put_of_grant(out, "closed", *id, *grant),
-        Said::Bounced(id) => put_named(out, "bounced", *id),
-        Said::Routed(id) => put_named(out, "routed", *id),
+        Said::Credited(id, grant) => put_of_grant(out, " credited ", *id, *grant),
+        Said::Discarded(id, grant) => put_of_grant(out, " discarded ", *id, *grant),
+        Said::Installed(id, grant) => put_of_grant(out, " installed ", *id, *grant),
+        Said::Closing(id, grant) => put_of_grant(out, " closing ", *id, *grant),
+        Said::Closed(id, grant) => put_of_grant(out, " closed ", *id, *grant),
+        Said::Bounced(id) => put_named(out, " bounced ", *id),
+        Said::Routed(id) => put_named(out, " routed ", *id),
         Said::Held(id, act) => {
             let act = act.number();
-            put_named(out, "held", *id)?;
-            write!(out, " {act}")
+            put_named(out, " held ", *id)?;
+            put_field(out, " ", act as u64)
         }
-        Said::Saving(act) => put_of_act(out, "saving", *act),
-        Said::Saved(act) => put_of_act(out, "saved", *act),
-        Said::Current(act) => put_of_act(out, "current", *act),
-        Said::Yielded(act) => put_of_act(out, "yielded", *act),
+        Said::Saving(act) => put_of_act(out, " saving ", *act),
+        Said::Saved(act) => put_of_act(out, " saved ", *act),
+        Said::Current(act) => put_of_act(out, " current ", *act),
+        Said::Yielded(act) => put_of_act(out, " yielded ", *act),
         Said::Done { grant, revoked } => {
             let grant = grant.number();
-            write!(out, " done {grant}")?;
+            put_field(out, " done ", grant as u64)?;
             put_optional(out, "revoked", grant_number(*revoked))
         }
-        Said::Save(act) => put_of_act(out, "save", *act),
+        Said::Save(act) => put_of_act(out, " save ", *act),
         Said::No(why) => {
             out.push_str(" refused ")?;
             out.push_str(no_word(*why))
         }
-        Said::Granted { grant, id, held } => put_order_sent(out, "granted", *grant, *id, *held),
+        Said::Granted { grant, id, held } => put_order_sent(out, " granted ", *grant, *id, *held),
         Said::Revoking(grant) => {
             let grant = grant.number();
-            write!(out, " revoking {grant}")
+            put_field(out, " revoking ", grant as u64)
         }
-        Said::CloseSent { grant, id, held } => put_order_sent(out, "close", *grant, *id, *held),
+        Said::CloseSent { grant, id, held } => put_order_sent(out, " close ", *grant, *id, *held),
         Said::Created => out.push_str(" created"),
         Said::Extended => out.push_str(" extended"),
         Said::Removed => out.push_str(" removed"),
         Said::Part { of, at, len } => {
             let of = of.number();
-            write!(out, " part of {of} at {at} len {len}")
+            put_field(out, " part of ", of as u64)?;
+            put_field(out, " at ", *at as u64)?;
+            put_field(out, " len ", *len as u64)
         }
         Said::Revoke => out.push_str(" revoke"),
     }

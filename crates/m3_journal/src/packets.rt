@@ -12,9 +12,8 @@ use crate::outcomes::put_answer;
 use m3_base::ids::{ActId, EpId, FlightId, GrantId};
 use m3_base::message::{Header, Message};
 use m3_base::packet::{Fresh, Packet};
-use m3_text::printing::{put_flight, put_hex};
+use m3_text::printing::{put_field, put_flight, put_hex, put_word};
 use std::alloc::AllocError;
-use std::fmt::Write;
 
 fn message_word(header: &Header) -> &'static str
     ensures { result.now ≡ message_word header.now }
@@ -33,7 +32,8 @@ fn put_wish(out: &mut String, header: &Header) -> Result<(), AllocError>
     if header.reply_ep == 255 {
         out.push_str(" reply none")
     } else {
-        write!(out, " reply {} grant {}", header.reply_ep, header.reply)
+        put_field(out, " reply ", header.reply_ep as u64)?;
+        put_field(out, " grant ", header.reply as u64)
     }
 }
 
@@ -41,7 +41,8 @@ fn put_wish(out: &mut String, header: &Header) -> Result<(), AllocError>
 fn put_name(out: &mut String, word: &str, id: FlightId) -> Result<(), AllocError>
     ensures { OnOk result (string_bytes out.new ≡ string_bytes out.old ++ line_text (word.now ∷ flight_word id ∷ [])) }
 {
-    write!(out, "{word} ")?;
+    out.push_str(word)?;
+    out.push_str(" ")?;
     put_flight(out, id)
 }
 
@@ -52,7 +53,9 @@ fn put_receiver(out: &mut String, act: ActId, ep: EpId, grant: GrantId) -> Resul
     let act = act.number();
     let ep = ep.number();
     let grant = grant.number();
-    write!(out, " to {act} ep {ep} grant {grant}")
+    put_field(out, " to ", act as u64)?;
+    put_field(out, " ep ", ep as u64)?;
+    put_field(out, " grant ", grant as u64)
 }
 
 fn put_payload(out: &mut String, bytes: &[u8]) -> Result<(), AllocError>
@@ -66,7 +69,8 @@ fn put_payload(out: &mut String, bytes: &[u8]) -> Result<(), AllocError>
 fn put_origin(out: &mut String, send: u32, label: u64) -> Result<(), AllocError>
     ensures { OnOk result (string_bytes out.new ≡ string_bytes out.old ++ words_text (origin_words send label)) }
 {
-    write!(out, " send {send} label {label}")
+    put_field(out, " send ", send as u64)?;
+    put_field(out, " label ", label)
 }
 
 // What a message says beside where it goes.
@@ -100,7 +104,8 @@ fn put_credit(out: &mut String, id: FlightId, to: ActId, grant: GrantId) -> Resu
     let to = to.number();
     let grant = grant.number();
     put_name(out, "credit", id)?;
-    write!(out, " to {to} grant {grant}")
+    put_field(out, " to ", to as u64)?;
+    put_field(out, " grant ", grant as u64)
 }
 
 // A read or a write up to its place.
@@ -115,13 +120,16 @@ fn put_access(
 {
     let grant = grant.number();
     put_name(out, word, id)?;
-    write!(out, " grant {grant} place {place}")
+    put_field(out, " grant ", grant as u64)?;
+    put_field(out, " place ", place as u64)
 }
 
 fn put_terms(out: &mut String, label: u64, size: u16, limit: u8) -> Result<(), AllocError>
     ensures { OnOk result (string_bytes out.new ≡ string_bytes out.old ++ words_text (terms_words label size limit)) }
 {
-    write!(out, " label {label} size {size} credits {limit}")
+    put_field(out, " label ", label)?;
+    put_field(out, " size ", size as u64)?;
+    put_field(out, " credits ", limit as u64)
 }
 
 // A record's form and its grant.
@@ -129,7 +137,8 @@ fn put_record_grant(out: &mut String, form: &str, grant: GrantId) -> Result<(), 
     ensures { OnOk result (string_bytes out.new ≡ string_bytes out.old ++ words_text (record_grant_words form.now grant)) }
 {
     let grant = grant.number();
-    write!(out, " {form} grant {grant}")
+    put_word(out, form)?;
+    put_field(out, " grant ", grant as u64)
 }
 
 fn put_record(out: &mut String, fresh: &Fresh) -> Result<(), AllocError>
@@ -151,7 +160,9 @@ fn put_record(out: &mut String, fresh: &Fresh) -> Result<(), AllocError>
         }
         Fresh::Receive { grant, slots, size } => {
             let grant = grant.number();
-            write!(out, " recv grant {grant} slots {slots} size {size}")
+            put_field(out, " recv grant ", grant as u64)?;
+            put_field(out, " slots ", *slots as u64)?;
+            put_field(out, " size ", *size as u64)
         }
         Fresh::Memory {
             grant,
@@ -178,7 +189,8 @@ fn put_install(
     let to = to.number();
     let ep = ep.number();
     put_name(out, "install", id)?;
-    write!(out, " to {to} ep {ep}")?;
+    put_field(out, " to ", to as u64)?;
+    put_field(out, " ep ", ep as u64)?;
     put_record(out, fresh)
 }
 
@@ -201,7 +213,7 @@ pub fn put_packet(out: &mut String, packet: &Packet) -> Result<(), AllocError>
             buffer,
         } => {
             put_access(out, "read", *id, *grant, *place)?;
-            write!(out, " len {}", buffer.len())
+            put_field(out, " len ", buffer.len() as u64)
         }
         Packet::Write {
             id,

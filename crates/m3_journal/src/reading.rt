@@ -4,6 +4,7 @@ pub mod answers;
 pub mod audit_lines;
 pub mod causes;
 pub mod draft;
+pub mod draft_lines;
 pub mod entries;
 pub mod line;
 pub mod long_outcomes;

@@ -11,9 +11,8 @@ use crate::orders::put_grant;
 use m3_base::ids::{ActId, EpId};
 use m3_base::setup::Setup;
 use m3_base::setup_line::SetupLine;
-use m3_text::printing::put_hex;
+use m3_text::printing::{put_field, put_hex};
 use std::alloc::AllocError;
-use std::fmt::Write;
 
 /// The lines of a setup.
 pub fn put_setup(out: &mut String, setup: &Setup) -> Result<(), AllocError>
@@ -37,7 +36,8 @@ fn put_later_lines(out: &mut String, lines: &[SetupLine]) -> Result<(), AllocErr
 pub fn put_machine(out: &mut String, tiles: u8, memory: u32) -> Result<(), AllocError>
     ensures { OnOk result (string_bytes out.new ≡ string_bytes out.old ++ line_text (machine_words tiles memory)) }
 {
-    write!(out, "machine tiles {tiles} memory {memory}")
+    put_field(out, "machine tiles ", tiles as u64)?;
+    put_field(out, " memory ", memory as u64)
 }
 
 pub fn put_setup_line(out: &mut String, line: &SetupLine) -> Result<(), AllocError>
@@ -47,23 +47,25 @@ pub fn put_setup_line(out: &mut String, line: &SetupLine) -> Result<(), AllocErr
         SetupLine::Act { act, tile } => {
             let act = act.number();
             let tile = tile.number();
-            write!(out, "act {act} tile {tile}")
+            put_field(out, "act ", act as u64)?;
+            put_field(out, " tile ", tile as u64)
         }
-        SetupLine::Quantum(quantum) => write!(out, "quantum {quantum}"),
+        SetupLine::Quantum(quantum) => put_field(out, "quantum ", *quantum as u64),
         SetupLine::Grant(line) => put_grant(out, line),
         SetupLine::Files(grant) => {
             let grant = grant.number();
-            write!(out, "files {grant}")
+            put_field(out, "files ", grant as u64)
         }
         SetupLine::Item(act, command) => {
             let act = act.number();
-            write!(out, "prog {act}")?;
+            put_field(out, "prog ", act as u64)?;
             put_command(out, command)
         }
         SetupLine::AwaitItem(act, ep) => {
             let act = act.number();
             let ep = ep.number();
-            write!(out, "prog {act} await {ep}")
+            put_field(out, "prog ", act as u64)?;
+            put_field(out, " await ", ep as u64)
         }
         SetupLine::Writer {
             act,
@@ -84,7 +86,8 @@ pub fn put_setup_line(out: &mut String, line: &SetupLine) -> Result<(), AllocErr
         } => { put_reader(out, *act, *mem, *recv, *chunk, *ring, *fuel) }
         SetupLine::Boxed { act, logic, fuel } => {
             let act = act.number();
-            write!(out, "box {act} {logic}")?;
+            put_field(out, "box ", act as u64)?;
+            put_field(out, " ", *logic as u64)?;
             put_fuel(out, *fuel)
         }
     }
@@ -138,7 +141,10 @@ fn put_writer_ends(
     let mem = mem.number();
     let send = send.number();
     let reply = reply.number();
-    write!(out, "writer {act} mem {mem} send {send} reply {reply}")
+    put_field(out, "writer ", act as u64)?;
+    put_field(out, " mem ", mem as u64)?;
+    put_field(out, " send ", send as u64)?;
+    put_field(out, " reply ", reply as u64)
 }
 
 fn put_reader_ends(out: &mut String, act: ActId, mem: EpId, recv: EpId) -> Result<(), AllocError>
@@ -147,13 +153,16 @@ fn put_reader_ends(out: &mut String, act: ActId, mem: EpId, recv: EpId) -> Resul
     let act = act.number();
     let mem = mem.number();
     let recv = recv.number();
-    write!(out, "reader {act} mem {mem} recv {recv}")
+    put_field(out, "reader ", act as u64)?;
+    put_field(out, " mem ", mem as u64)?;
+    put_field(out, " recv ", recv as u64)
 }
 
 fn put_pipe(out: &mut String, chunk: u16, ring: u8) -> Result<(), AllocError>
     ensures { OnOk result (string_bytes out.new ≡ string_bytes out.old ++ words_text (pipe_words chunk ring)) }
 {
-    write!(out, " chunk {chunk} ring {ring}")
+    put_field(out, " chunk ", chunk as u64)?;
+    put_field(out, " ring ", ring as u64)
 }
 
 fn put_bytes(out: &mut String, bytes: &[u8]) -> Result<(), AllocError>
@@ -166,5 +175,5 @@ fn put_bytes(out: &mut String, bytes: &[u8]) -> Result<(), AllocError>
 fn put_fuel(out: &mut String, fuel: u16) -> Result<(), AllocError>
     ensures { OnOk result (string_bytes out.new ≡ string_bytes out.old ++ words_text (fuel_words fuel)) }
 {
-    write!(out, " fuel {fuel}")
+    put_field(out, " fuel ", fuel as u64)
 }

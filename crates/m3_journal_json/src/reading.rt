@@ -3,7 +3,7 @@
 ghost use Rattle.std.specs.Prelude.{◌≡◌};
 ghost use Rattle.serde_json.specs.View.{items_view};
 ghost use Rattle.m3_journal.specs.Reading.Journals.{journal_from, then_next, after_mark, after_strings};
-ghost use Rattle.m3_journal.specs.Reading.Refusals.{Parses, draft_value};
+ghost use Rattle.m3_journal.specs.Reading.Refusals.{Parses, AreFew, draft_value};
 ghost use Rattle.m3_journal_json.specs.Objects.{json_of, journal_of_json, journal_of_lists};
 ghost use Rattle.m3_journal_json.specs.Reads.{value_texts, journal_after_setup, journal_after_entries, Finds, Takes};
 
@@ -16,9 +16,11 @@ use std::alloc::Global;
 
 /// The journal that the JSON is, and the lines of its audit, or why it is none. Line 1 with `Form` stands for any bytes
 /// that aren't JSON of a journal's form. A string that is refused is named by its place in the setup, the entries and
-/// the audit, counted from 1 through all three, with the causes of a text's lines.
+/// the audit, counted from 1 through all three, with the causes of a text's lines. A journal that was read has at most
+/// 2,097,152 entries.
 pub fn from_json(alloc: Global, bytes: &[u8]) -> Result<(Journal, Audit), ScriptRefusal>
     ensures exact { Parses result (journal_of_json bytes.now) }
+    ensures few { AreFew result }
 {
     let value = read_value(alloc, bytes)?;
     match parts_of(&value) {
@@ -58,7 +60,8 @@ fn read_lists(
     entries: &[Value],
     audit: &[Value],
 ) -> Result<(Journal, Audit), ScriptRefusal>
-    ensures { Parses result (journal_of_lists (items_view setup.now, items_view entries.now, items_view audit.now)) }
+    ensures exact { Parses result (journal_of_lists (items_view setup.now, items_view entries.now, items_view audit.now)) }
+    ensures few { AreFew result }
 {
     if are_texts(setup) && are_texts(entries) && are_texts(audit) {
         read_strings(alloc, setup, entries, audit)
@@ -73,7 +76,8 @@ fn read_strings(
     entries: &[Value],
     audit: &[Value],
 ) -> Result<(Journal, Audit), ScriptRefusal>
-    ensures { Parses result (journal_from (value_texts setup.now) (value_texts entries.now) (value_texts audit.now)) }
+    ensures exact { Parses result (journal_from (value_texts setup.now) (value_texts entries.now) (value_texts audit.now)) }
+    ensures few { AreFew result }
 {
     let mut draft = Draft::new(alloc);
     match take_list(alloc, &mut draft, &Line::Head, setup, 1) {
@@ -90,7 +94,8 @@ fn read_entries(
     audit: &[Value],
     line: u32,
 ) -> Result<(Journal, Audit), ScriptRefusal>
-    ensures { Parses result (journal_after_setup (value_texts entries.now) (value_texts audit.now) (draft_value draft, line)) }
+    ensures exact { Parses result (journal_after_setup (value_texts entries.now) (value_texts audit.now) (draft_value draft, line)) }
+    ensures few { AreFew result }
 {
     let mut draft = draft;
     match take_list(alloc, &mut draft, &Line::Begin, entries, line) {
@@ -106,7 +111,8 @@ fn read_audit(
     audit: &[Value],
     line: u32,
 ) -> Result<(Journal, Audit), ScriptRefusal>
-    ensures { Parses result (journal_after_entries (value_texts audit.now) (draft_value draft, line)) }
+    ensures exact { Parses result (journal_after_entries (value_texts audit.now) (draft_value draft, line)) }
+    ensures few { AreFew result }
 {
     let mut draft = draft;
     match take_list(alloc, &mut draft, &Line::End, audit, line) {

@@ -1,5 +1,5 @@
 -- What the readers return, compared with what is read.
-use Rattle.std.specs.Prelude.{◌≡◌, ℕ, Bool, true, false, Result, Ok, Err, ⊤}
+use Rattle.std.specs.Prelude.{◌≡◌, ℕ, ◌≤◌, Bool, true, false, length, Result, Ok, Err, ⊤}
 use Rattle.m3_base.specs.declared.event.Entry.{Entry}
 use Rattle.m3_base.specs.declared.journal.Audit.{Audit}
 use Rattle.m3_base.specs.declared.journal.Journal.{Journal}
@@ -35,3 +35,8 @@ journal_value x = record { setup = x.0.setup; entries = x.0.entries.items; audit
 abbrev pub Parses : Result (Journal × Audit) ScriptRefusal → Result JournalValue Refused → Type 0
 Parses (Ok x) given = given ≡ Ok (journal_value x)
 Parses (Err e) given = Refuses e given
+
+-- a journal that was read has no more entries than a journal may have
+abbrev pub AreFew : Result (Journal × Audit) ScriptRefusal → Type 0
+AreFew (Ok x) = length x.0.entries.items ≤ 2097152
+AreFew (Err e) = ⊤

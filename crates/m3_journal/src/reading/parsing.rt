@@ -3,7 +3,7 @@
 ghost use Rattle.std.specs.Prelude.{◌≡◌, ◌≤◌, length};
 ghost use Rattle.m3_script.specs.ParserView.{refusal, Leads};
 ghost use Rattle.m3_journal.specs.Reading.Journals.{journal_of, draft_after_line, journal_of_draft};
-ghost use Rattle.m3_journal.specs.Reading.Refusals.{Parses, draft_value};
+ghost use Rattle.m3_journal.specs.Reading.Refusals.{Parses, AreFew, draft_value};
 
 use crate::reading::draft::{Draft, Stage};
 use crate::reading::line::{Words, read_line};
@@ -16,10 +16,12 @@ use std::alloc::Global;
 /// The journal that the bytes spell, and the lines of its audit, or the first line that is refused: with `Form` one
 /// whose words fit no form, also an empty line or a comment; with `Number` one with a number outside its range; with
 /// `Hex` one whose bytes aren't pairs of digits in lower case, or are too many; with `Place` one that may not stand
-/// there, or the end of a text without its line `end`; with `Rule` a line of the setup that a rule refuses.
+/// there, the entry after the 2,097,152nd too, or the end of a text without its line `end`; with `Rule` a line of the
+/// setup that a rule refuses. So a journal that was read has no more entries than that.
 pub fn parse_journal(alloc: Global, bytes: &[u8]) -> Result<(Journal, Audit), ScriptRefusal>
     requires limit { length bytes.now ≤ 67108864 }
     ensures exact { Parses result (journal_of bytes.now) }
+    ensures few { AreFew result }
 {
     let mut draft = Draft::new(alloc);
     let mut words = Words::new(alloc);
@@ -62,7 +64,8 @@ pub fn refusal(line: u32, error: LineRefusal) -> ScriptRefusal
 
 /// The journal of a draft whose next line would have this number.
 pub fn finish(draft: Draft, line: u32) -> Result<(Journal, Audit), ScriptRefusal>
-    ensures { Parses result (journal_of_draft (draft_value draft, line)) }
+    ensures exact { Parses result (journal_of_draft (draft_value draft, line)) }
+    ensures few { AreFew result }
 {
     match (draft.stage, draft.setup) {
         (Stage::Ended, Some(setup)) => {

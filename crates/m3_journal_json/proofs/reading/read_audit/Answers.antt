@@ -5,10 +5,14 @@ use Rattle.m3_journal_json.proofs.Whole.{after_audit, audit_refused}
 use Rattle.m3_journal_json.proofs.reading.read_audit.Goals as goal
 
 pub returns-in-Ok : goal.returns-in-Ok
-returns-in-Ok c =
-    after_audit [] [] (value_texts c.args.audit.now) c.finish.result (draft_value c.args.draft, c.args.line) (draft_value c.take_list.new.draft, c.in-Ok.line)
-    c.in-Ok.ensures c.finish.ensures
+returns-in-Ok c = record {
+  exact = after_audit [] [] (value_texts c.args.audit.now) c.finish.result (draft_value c.args.draft, c.args.line) (draft_value c.take_list.new.draft, c.in-Ok.line)
+      c.in-Ok.ensures c.finish.ensures.exact;
+  few = c.finish.ensures.few;
+}
 
 pub returns-in-Err : goal.returns-in-Err
-returns-in-Err c =
-    audit_refused [] [] (value_texts c.args.audit.now) c.in-Err.error (draft_value c.args.draft, c.args.line) c.in-Err.ensures
+returns-in-Err c = record {
+  exact = audit_refused [] [] (value_texts c.args.audit.now) c.in-Err.error (draft_value c.args.draft, c.args.line) c.in-Err.ensures;
+  few = tt;
+}

@@ -8,7 +8,7 @@ use Rattle.m3_journal.proofs.reading.parsing.parse_journal.Goals as goal
 pub returns-in-Err : goal.returns-in-Err
 returns-in-Err c =
     let cut : journal_of_reading (draft_after_all draft_after_line (c.cut_line.result.0.now ∷ lines c.cut_line.result.1.now) (draft_value c.loop-rest.draft) c.loop-rest.line) ≡ journal_of c.args.bytes.now = rw c.cut_line.ensures.line at c.loop-rest.invariant.reads in
-    record { exact = rw c.refusal.ensures (is_refused draft_after_line c.cut_line.result.0.now (lines c.cut_line.result.1.now) (draft_value c.loop-rest.draft) c.loop-rest.line c.in-Err.error (journal_of c.args.bytes.now) c.in-Err.ensures cut) }
+    record { exact = rw c.refusal.ensures (is_refused draft_after_line c.cut_line.result.0.now (lines c.cut_line.result.1.now) (draft_value c.loop-rest.draft) c.loop-rest.line c.in-Err.error (journal_of c.args.bytes.now) c.in-Err.ensures cut); few = tt }
 
 pub loop-rest-preserved : goal.loop-rest-preserved
 loop-rest-preserved c =
@@ -19,4 +19,4 @@ loop-rest-preserved c =
     }
 
 pub returns : goal.returns
-returns c = record { exact = rw (at_end draft_after_line c.loop-rest.rest.now (draft_value c.loop-rest.draft) c.loop-rest.line (journal_of c.args.bytes.now) c.loop-rest-test.ensures c.loop-rest.invariant.reads) c.finish.ensures }
+returns c = record { exact = rw (at_end draft_after_line c.loop-rest.rest.now (draft_value c.loop-rest.draft) c.loop-rest.line (journal_of c.args.bytes.now) c.loop-rest-test.ensures c.loop-rest.invariant.reads) c.finish.ensures.exact; few = c.finish.ensures.few }
