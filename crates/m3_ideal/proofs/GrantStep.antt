@@ -1,21 +1,18 @@
 -- A grant is made, revoked, closed and done.
-use Rattle.std.proofs.Common.{◌≡◌, ◌≢◌, ℕ, ◌+◌, ◌<◌, Bool, true, false, List, [], ◌∷◌, ◌++◌, length, get_or-set_same, get_or-set_other, length-set, Some, None, Ok, Err, refl, sym, subst, ap, ◌∙◌, arith}
-use Rattle.std.specs.Prelude.{Option, not, ◌&&◌, slice_index_or, slice_set, is_none, if◌then◌else◌}
+use Rattle.std.proofs.Common.{◌≡◌, ℕ, ◌+◌, Bool, true, false, List, [], ◌∷◌, ◌++◌, length, get_or-set_same, get_or-set_other, length-set, Some, None, refl, sym, subst, ap, ◌∙◌, arith}
+use Rattle.std.specs.Prelude.{Option, slice_set, is_none, if◌then◌else◌}
 use Rattle.m3_base.specs.declared.event.No.{No}
 use Rattle.m3_base.specs.declared.order.GrantLine.{GrantLine}
 use Rattle.m3_base.specs.declared.packet.Fresh.{Fresh}
 use Rattle.m3_base.specs.declared.packet.Packet.{Packet}
-use Rattle.m3_base.specs.Ideal.Flights.{name_of, flight_name, new_flight}
-use Rattle.m3_base.specs.Ideal.Context.{Free, Context, endpoint, with_endpoint}
-use Rattle.m3_base.specs.Ideal.GrantRules.{form, make_refusal, new_grant, with_grant_made, change_grant, may_close, close_sent, is_closed_grant, to_done, to_sent}
-use Rattle.m3_base.specs.Ideal.Landing.{has_closing, flies_at}
-use Rattle.m3_base.specs.Ideal.State.{Closed, Grant, State, context_of, put_context, holder, holder_ep, grant_in, parent_in, parent_of, undone}
-use Rattle.m3_base.specs.Ideal.Step.{Label, Not_made, Makes, Sends_close, Frees, Finishes, IdealResult, make_in, make_for, send_close_in, free_in, closed_in, done_in}
-use Rattle.m3_ideal.specs.Contexts.{AtContext, AtKept}
-use Rattle.m3_ideal.specs.Ideal.Launch.{IsNextFlight}
+use Rattle.m3_base.specs.Ideal.Flights.{flight_name, new_flight}
+use Rattle.m3_base.specs.Ideal.Context.{Free, Context, with_endpoint}
+use Rattle.m3_base.specs.Ideal.GrantRules.{make_refusal, new_grant, change_grant, may_close, to_sent}
+use Rattle.m3_base.specs.Ideal.State.{Closed, Grant, State, context_of, put_context, holder, holder_ep, grant_in}
+use Rattle.m3_base.specs.Ideal.Step.{Not_made, Makes, Sends_close, Frees, IdealResult, make_in, make_for, send_close_in, free_in, closed_in}
+use Rattle.m3_ideal.specs.Contexts.{AtKept}
 use Rattle.m3_ideal.specs.Ideal.NextNumbers.{AreNexts}
 use Rattle.m3_ideal.specs.Landing.{Is_freed}
-use Rattle.m3_ideal.specs.Lanes.{FlightTable}
 use Rattle.m3_ideal.specs.Making.{Forms, form_in, line_in}
 use Rattle.m3_ideal.proofs.Numbers.{found_under, put_same}
 

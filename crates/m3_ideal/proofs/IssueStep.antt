@@ -1,24 +1,21 @@
 -- A command is issued at the context of its activity, and its flight goes out.
-use Rattle.std.proofs.Common.{◌≡◌, ◌≢◌, ℕ, ◌+◌, ◌<◌, Bool, true, false, List, [], ◌∷◌, length, get_or-set_same, get_or-set_other, length-set, Some, None, Ok, Err, refl, sym, subst, ap, ◌∙◌, arith}
-use Rattle.std.specs.Prelude.{Option, Result, slice_index_or, slice_set, is_none}
-use Rattle.std.proofs.lemmas.Bool.Decides.{nat_tests}
+use Rattle.std.proofs.Common.{◌≡◌, ◌≢◌, ℕ, ◌+◌, ◌<◌, Bool, true, false, List, get_or-set_same, get_or-set_other, length-set, Some, None, Ok, refl, sym, subst, ap, ◌∙◌, arith}
+use Rattle.std.specs.Prelude.{Option, Result, slice_index_or, slice_set}
 use Rattle.m3_base.specs.declared.command.Command.{Command}
 use Rattle.m3_base.specs.declared.packet.Packet.{Packet}
 use Rattle.m3_base.specs.Ideal.Flights.{name_of}
 use Rattle.m3_base.specs.Ideal.Context.{Context}
-use Rattle.m3_base.specs.Ideal.Issue.{Issued as Issue, issue, next_id}
+use Rattle.m3_base.specs.Ideal.Issue.{next_id}
 use Rattle.m3_base.specs.Ideal.State.{State, act_of, act_before, same_act, context_of, put_context}
-use Rattle.m3_base.specs.Ideal.Step.{Label, At_issue, IdealResult, issue_in, issued_in, with_packet}
+use Rattle.m3_base.specs.Ideal.Step.{issue_in, issued_in}
 use Rattle.m3_base.proofs.Activities.{act_found, same_act-is, same_act-itself, same_act-joins}
 use Rattle.m3_base.proofs.KeyedList.{find-replaced_other, find-replaced_same}
 use Rattle.m3_ideal.specs.declared.issued.Issued.{Issued}
-use Rattle.m3_ideal.specs.declared.word.Word.{Word}
-use Rattle.m3_ideal.specs.Contexts.{AtContext, AtKept}
-use Rattle.m3_ideal.specs.Ideal.Launch.{outcome_of, packet_of_issue, IsNextFlight, MayLaunch, nexts_after}
+use Rattle.m3_ideal.specs.Contexts.{AtContext}
+use Rattle.m3_ideal.specs.Ideal.Launch.{packet_of_issue, IsNextFlight, MayLaunch, nexts_after}
 use Rattle.m3_ideal.specs.Ideal.NextNumbers.{next_of, SameNexts, AreNexts}
-use Rattle.m3_ideal.specs.Issuing.{issued_by, Numbers, IsNextOf, IssuesAt}
+use Rattle.m3_ideal.specs.Issuing.{Numbers, IsNextOf, IssuesAt}
 use Rattle.m3_ideal.specs.Lanes.{FlightTable}
-use Rattle.m3_ideal.specs.Words.{meaning}
 use Rattle.m3_ideal.proofs.Numbers.{found_under, next_put, put_same}
 
 -- ---- next numbers

@@ -1,5 +1,5 @@
 -- A flight lands at the context of its activity or in memory, and an answer ends its command.
-use Rattle.std.proofs.Common.{◌≡◌, ℕ, Bool, true, false, List, [], ◌∷◌, length, Some, None, Ok, Err, refl, sym, subst, ap, ◌∙◌, arith}
+use Rattle.std.proofs.Common.{◌≡◌, ℕ, Bool, true, false, List, [], ◌∷◌, length, Some, None, Ok, Err, refl, sym, subst, ap, ◌∙◌}
 use Rattle.std.specs.Prelude.{Option, Result, ◌==◌, if◌then◌else◌}
 use Rattle.m3_base.specs.declared.ids.FlightId.{FlightId}
 use Rattle.m3_base.specs.declared.message.Message.{Message}
@@ -8,15 +8,15 @@ use Rattle.m3_base.specs.declared.command.Refusal.{Refusal}
 use Rattle.m3_base.specs.declared.packet.Fresh.{Fresh}
 use Rattle.m3_base.specs.declared.packet.Packet.{Packet}
 use Rattle.m3_base.specs.Ideal.Flights.{name_of, same_name, flight, change_flight, end_flight}
-use Rattle.m3_base.specs.Ideal.Context.{Flying, Context, endpoint, new_endpoint, with_endpoint}
-use Rattle.m3_base.specs.Ideal.Landing.{land, land_by, land_refusal, landed_answer, message_id, has_send, with_credit, has_live, closed_at, flies_at, flying_at, context_after_answer, freed_grant, bytes_at, written_at}
+use Rattle.m3_base.specs.Ideal.Context.{Flying, Context, endpoint, with_endpoint}
+use Rattle.m3_base.specs.Ideal.Landing.{land_by, landed_answer, message_id, with_credit, closed_at, flies_at, flying_at, bytes_at, written_at}
 use Rattle.m3_base.specs.Ideal.State.{State, context_of, put_context}
-use Rattle.m3_base.specs.Ideal.Step.{Label, Landing as Lands_label, Refusing, Credits, Discards, Installs, Starts_closing, Closes_endpoint, Answers, IdealResult, number_of, land_in, message_in, credit_in, install_in, close_in, answered_in, answer_in, landed_in, landing_word, settle_in}
+use Rattle.m3_base.specs.Ideal.Step.{Label, Landing as Lands_label, Refusing, Credits, Discards, Starts_closing, Closes_endpoint, IdealResult, land_in, message_in, credit_in, install_in, close_in, answered_in, answer_in, landed_in, settle_in}
 use Rattle.m3_base.proofs.FlightNames.{same_name-is, same_name-itself}
 use Rattle.m3_ideal.specs.declared.flight.Landing.{Landing}
-use Rattle.m3_ideal.specs.Contexts.{AtContext, AtKept}
+use Rattle.m3_ideal.specs.Contexts.{AtKept}
 use Rattle.m3_ideal.specs.Ideal.FlightParts.{landing_at, letter_at, answer_at, bytes_in}
-use Rattle.m3_ideal.specs.Landing.{Lands, GivesTo, InstallsTo, Closes, Settles, SettlesBy}
+use Rattle.m3_ideal.specs.Landing.{Lands, GivesTo, Closes, Settles, SettlesBy}
 use Rattle.m3_ideal.proofs.Numbers.{found_under, put_same}
 
 -- ---- flights that change

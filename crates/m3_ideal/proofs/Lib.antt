@@ -1,3 +1,5 @@
+mod AuditCounts
+mod AuditLines
 mod Places
 mod Landing
 mod Tables
@@ -12,3 +14,5 @@ mod IssueStep
 mod LandingStep
 mod GrantStep
 mod OpeningLines
+mod Judging
+mod OnlyVerdict

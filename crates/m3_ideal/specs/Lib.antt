@@ -23,3 +23,4 @@ pub mod Tally
 pub mod Making
 pub mod Ideal
 pub mod IdealView
+pub mod Check

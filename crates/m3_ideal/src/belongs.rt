@@ -1,10 +1,11 @@
 //! Which outcomes belong to which event.
 
 ghost use Rattle.std.specs.Prelude.{◌≡◌};
-ghost use Rattle.m3_base.specs.Journal.OutcomeForms.{allows_for_command, allows_for_do, allows_for_turn, is_landing_outcome, allows_for_take, allows_for_tend, allows_for_close, allows_for_grant, allows_for_switch, allows_for_order, is_file_outcome, allows_for_file, allows_outcome};
+ghost use Rattle.m3_base.specs.Journal.OutcomeForms.{allows_for_command, allows_for_do, allows_for_turn, is_landing_outcome, allows_for_take, allows_for_tend, allows_for_close, allows_for_grant, allows_for_switch, allows_for_order, is_file_outcome, allows_for_file, allows_outcome, may_restore, is_allowed_outcome};
 
 use m3_base::command::Command;
-use m3_base::event::{Event, IdleWhy, Made, No, Said};
+use m3_base::event::{Event, IdleWhy, Made, No, Outcome, Said};
+use m3_base::ids::ActId;
 use m3_base::order::Order;
 
 fn is_of_command(command: &Command, said: &Said) -> bool
@@ -175,4 +176,24 @@ pub fn is_of(event: &Event, made: &Option<Made>, said: &Said) -> bool
         Event::Order(order) => is_of_order(order, said),
         Event::File(_) => is_of_file(said),
     }
+}
+
+// Whether a Restore may go out with the event.
+fn is_of_restore(event: &Event, said: &Said, restore: Option<ActId>) -> bool
+    ensures { result ≡ may_restore event.now said.now restore }
+{
+    match (event, restore) {
+        (_, None) => true,
+        (Event::Tend(_), Some(_)) => is_of_landing(said),
+        (Event::Take { .. }, Some(_)) => matches!(said, Said::Saved(_)),
+        _ => false,
+    }
+}
+
+/// Whether the outcome has a form of the event.
+pub fn belongs(event: &Event, outcome: &Outcome) -> bool
+    ensures { result ≡ is_allowed_outcome event.now outcome.now }
+{
+    is_of(event, &outcome.made, &outcome.said)
+        && is_of_restore(event, &outcome.said, outcome.restore)
 }

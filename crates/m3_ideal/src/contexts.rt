@@ -6,6 +6,7 @@ ghost use Rattle.m3_base.specs.Ideal.Context.{new_context};
 ghost use Rattle.m3_ideal.specs.Issuing.{IssuesAt};
 ghost use Rattle.m3_ideal.specs.Landing.{Lands, GivesTo, InstallsTo, Closes, SettlesBy, Is_freed};
 ghost use Rattle.m3_ideal.specs.Contexts.{AtContext, AtKept, IsDeclared};
+ghost use Rattle.m3_ideal.specs.Tables.{present};
 ghost use Rattle.m3_ideal.specs.Ideal.NextNumbers.{SameNexts};
 
 use crate::context::Context;
@@ -56,6 +57,13 @@ impl Contexts {
             Some(context) => Some(context),
             None => None,
         }
+    }
+
+    /// The place of each activity, with its context.
+    pub fn table(&self) -> &[Option<Context>]
+        ensures { present result.now ≡ self.now }
+    {
+        self.table.as_slice()
     }
 
     /// The activity of this number, where it has a context.

@@ -1,7 +1,7 @@
 //! All that flies.
 
 ghost use Rattle.std.specs.Prelude.{◌≡◌, ◌+◌, ◌<◌, ◌∷◌, [], None, replicate, length, slice_index_or, slice_set, IfOk, OnOk, OnErr, option_copied};
-ghost use Rattle.m3_ideal.specs.Lanes.{lanes_of};
+ghost use Rattle.m3_ideal.specs.Lanes.{flights_in, lanes_of};
 ghost use Rattle.m3_base.specs.Ideal.Flights.{flight, new_flight, change_flight, end_flight, name_of};
 
 use crate::flight::Flight;
@@ -39,6 +39,13 @@ impl Flights {
     {
         let lanes = empty_lanes(alloc)?;
         Ok(Flights { lanes })
+    }
+
+    /// The lane of each issuer.
+    pub fn lanes(&self) -> &[Lane]
+        ensures { flights_in (lanes_of result.now) ≡ self.now.list }
+    {
+        self.lanes.as_slice()
     }
 
     /// The flight of this name.

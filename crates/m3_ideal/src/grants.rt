@@ -5,7 +5,7 @@ mod make;
 mod node;
 mod tally;
 
-ghost use Rattle.std.specs.Prelude.{◌≡◌, ◌*◌, ◌+◌, ◌-◌, ◌<◌, nat_lt, nat_le, [], slice_get, IfOk, Option, Some, None, option_copied};
+ghost use Rattle.std.specs.Prelude.{◌≡◌, ◌*◌, ◌+◌, ◌-◌, ◌<◌, ◌≤◌, length, nat_lt, nat_le, [], slice_get, IfOk, Option, Some, None, option_copied};
 ghost use Rattle.std.specs.List.{list_any};
 ghost use Rattle.m3_base.specs.Ideal.GrantRules.{holds_at, may_close};
 ghost use Rattle.m3_base.specs.Ideal.State.{grant_in, undone, parent_in, parent_of};
@@ -59,9 +59,10 @@ impl Grants {
         })
     }
 
-    /// All of them.
+    /// All of them, of which there are at most 4,096.
     pub fn all(&self) -> &[Grant]
-        ensures { result.now ≡ self.now }
+        ensures same { result.now ≡ self.now }
+        ensures few { length self.now ≤ 4096 }
     {
         self.made.as_slice()
     }

@@ -58,6 +58,27 @@ impl Ideal {
         Ok(ideal)
     }
 
+    /// Its contexts.
+    pub fn contexts(&self) -> &Contexts
+        ensures { result.now ≡ self.now.contexts }
+    {
+        &self.contexts
+    }
+
+    /// All that flies.
+    pub fn flights(&self) -> &Flights
+        ensures { result.now.list ≡ self.now.flights }
+    {
+        &self.flights
+    }
+
+    /// Its grants.
+    pub fn grants(&self) -> &Grants
+        ensures { result.now ≡ self.now.grants }
+    {
+        &self.grants
+    }
+
     // No activity and no grant, over so many bytes of memory, which are 0.
     fn empty(alloc: Global, memory: u32) -> Result<Ideal, AllocError>
         ensures { IfOk result (λ s. s ≡ opening memory []) }

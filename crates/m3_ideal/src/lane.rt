@@ -23,6 +23,13 @@ impl Lane {
         Ok(Lane { flights })
     }
 
+    /// The places of its numbers.
+    pub fn flights(&self) -> &[Option<Flight>]
+        ensures { result.now ≡ lane_of self.now }
+    {
+        self.flights.as_slice()
+    }
+
     /// The flight of this number.
     pub fn get(&self, number: u32) -> Option<&Flight>
         ensures { option_copied result ≡ slice_index_or (lane_of self.now) number None }

@@ -2,7 +2,9 @@
 //! of a journal say of its steps. Every activity has a context of its own; there is no tile, link, place or hold list.
 #![tactic(auto)]
 
+pub mod audits;
 pub mod belongs;
+pub mod check;
 pub mod context;
 pub mod contexts;
 pub mod fetched;
@@ -12,6 +14,7 @@ pub mod flying;
 pub mod grants;
 pub mod ideal;
 pub mod issued;
+pub mod judge;
 pub mod lane;
 pub mod letter;
 pub mod memory;
@@ -19,4 +22,5 @@ pub mod records;
 pub mod shows;
 pub mod slot;
 pub mod steps;
+pub mod verdict;
 pub mod word;

@@ -130,6 +130,20 @@ impl ReceiveEnd {
         self.closing = true;
     }
 
+    /// Its unread messages, the oldest first.
+    pub fn unread(&self) -> &VecDeque<Letter>
+        ensures { result.now.items ≡ self.now.unread }
+    {
+        &self.unread
+    }
+
+    /// Its fetched messages.
+    pub fn fetched(&self) -> &[Fetched]
+        ensures { result.now ≡ self.now.fetched }
+    {
+        self.fetched.as_slice()
+    }
+
     /// Whether a message is unread.
     pub fn has_unread(&self) -> bool
         ensures { result ≡ not (length self.now.unread == 0) }

@@ -94,6 +94,13 @@ impl Slot {
         }
     }
 
+    /// What it has.
+    pub fn record(&self) -> &Record
+        ensures { endpoint_of result.now ≡ self.now }
+    {
+        &self.record
+    }
+
     /// The grant of its record.
     pub fn grant(&self) -> Option<GrantId>
         ensures { result ≡ grant_of self.now }
