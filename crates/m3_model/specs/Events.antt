@@ -22,12 +22,6 @@ SuitsPrograms h (Event.Turn a) = has_program h a ≡ true
 SuitsPrograms h (Event.File line) = ⊥
 SuitsPrograms h event = Unit {0}
 
--- the event is a turn of a program, or a file event
-abbrev pub IsUnserved : Event → Type 0
-IsUnserved (Event.Turn a) = Unit {0}
-IsUnserved (Event.File line) = Unit {0}
-IsUnserved event = ⊥
-
 -- the events that a machine without programs makes: commands, takes, tends, closes and orders
 abbrev pub IsServed : Event → Type 0
 IsServed (Event.Turn a) = ⊥

@@ -51,12 +51,14 @@ said_by (Some d) = Some (record { made = None; said = d.said; restore = d.restor
 abbrev pub outs_at : Site → Machine → List Entry → List (Option Outcome)
 outs_at h m [] = []
 outs_at h m (e ∷ es) =
-    said_by (placement_step (ideal_of m) (placement_of h m) e.event e.outcome.made) ∷ outs_at h (machine_of m (machine_step h m e.event e.outcome.made)) es
+    said_by (placement_step (ideal_of m) (placement_of h m) e.event e.outcome.made)
+    ∷ outs_at h (machine_of m (machine_step h m e.event e.outcome.made)) es
 
 -- a row: the machine opens as the ideal machine and the places do, says what the row says, and they say the same from each machine on the way
 pub record Row (memory : ℕ) (programs : List ℕ) (lines : List SetupLine) (entries : List Entry) : Type 0 where
   pub opens : ideal_of (opened_machine memory programs lines) ≡ opening memory lines
-  pub stands : placement_of (site_of memory programs lines) (opened_machine memory programs lines) ≡ opening_placement programs lines
+  pub stands :
+      placement_of (site_of memory programs lines) (opened_machine memory programs lines) ≡ opening_placement programs lines
   pub says : outs (site_of memory programs lines) (opened_machine memory programs lines) entries ≡ expected entries
   pub says_at : outs_at (site_of memory programs lines) (opened_machine memory programs lines) entries ≡ expected entries
 
@@ -129,7 +131,11 @@ abbrev pub auto : Site → ℕ → Driving → Driving
 auto h zero r = r
 auto h (suc n) r = auto h n (drives h r (next_event (ideal_of r.machine) (placement_of h r.machine) []))
 
-pub two_on_one_tile_machine : (auto (site_of 64 (0 ∷ 1 ∷ []) short_lines) 20 (record { machine = opened_machine 64 (0 ∷ 1 ∷ []) short_lines; programs = two_on_one_tile_programs; entries = [] })).entries ≡ short_journal
+abbrev pub two_on_one_tile_opened : Driving
+two_on_one_tile_opened =
+    record { machine = opened_machine 64 (0 ∷ 1 ∷ []) short_lines; programs = two_on_one_tile_programs; entries = [] }
+
+pub two_on_one_tile_machine : (auto (site_of 64 (0 ∷ 1 ∷ []) short_lines) 20 two_on_one_tile_opened).entries ≡ short_journal
 two_on_one_tile_machine = refl
 
 -- ---- an answer that the kernel applied while its activity was away is seen by its program
@@ -162,8 +168,17 @@ abbrev pub seen_in : Option Resident → Option Seen
 seen_in None = None
 seen_in (Some y) = Some y.seen
 
-pub row_away_machine : outs (site_of 16 (0 ∷ []) setup_away) (opened_machine 16 (0 ∷ []) setup_away) row_away ≡ expected row_away
+abbrev pub site_away : Site
+site_away = site_of 16 (0 ∷ []) setup_away
+
+abbrev pub opened_away : Machine
+opened_away = opened_machine 16 (0 ∷ []) setup_away
+
+pub row_away_machine : outs site_away opened_away row_away ≡ expected row_away
 row_away_machine = refl
 
-pub row_away_seen : seen_in (resident_of 0 (tile_at 2 (last_machine (site_of 16 (0 ∷ []) setup_away) (opened_machine 16 (0 ∷ []) setup_away) row_away))) ≡ Some (Got (Reply.Bytes (0 ∷ 0 ∷ [])))
+abbrev pub seen_away : Option Seen
+seen_away = seen_in (resident_of 0 (tile_at 2 (last_machine site_away opened_away row_away)))
+
+pub row_away_seen : seen_away ≡ Some (Got (Reply.Bytes (0 ∷ 0 ∷ [])))
 row_away_seen = refl

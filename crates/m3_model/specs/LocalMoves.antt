@@ -23,7 +23,9 @@ TakesFrom event None = Unit {0}
 pub record Steps (h : Site) (t : ℕ) (before : Part) (x : Item Entry Parcel) (after : Part) : Type 0 where
   pub tile : tile_for_event h x.entry.event ≡ t
   pub from : TakesFrom x.entry.event x.took
-  pub step : part_step h before x.entry.event x.entry.outcome.made (parcel_of x.took) ≡ Some (record { outcome = x.entry.outcome; part = after; out = x.out })
+  pub step :
+      part_step h before x.entry.event x.entry.outcome.made (parcel_of x.took)
+      ≡ Some (record { outcome = x.entry.outcome; part = after; out = x.out })
 
 -- a machine as the merge theorem has it: there are 16 tiles
 abbrev pub parts_of : Machine → merge.Machine Part Parcel

@@ -161,7 +161,8 @@ entry_at_opening x c t m =
 
 abbrev pub with_entries : State → Machine → List Home → Machine
 with_entries s m [] = m
-with_entries s m (x ∷ xs) = with_entries s (entry_at_opening x (context_or_new x.act (context_of x.act s.contexts)) (tile_at x.tile m) m) xs
+with_entries s m (x ∷ xs) =
+    with_entries s (entry_at_opening x (context_or_new x.act (context_of x.act s.contexts)) (tile_at x.tile m) m) xs
 
 abbrev pub empty_tiles : List Tile
 empty_tiles =
@@ -171,7 +172,13 @@ abbrev pub with_all_entries : Site → State → Machine
 with_all_entries h s =
     with_entries s (
     record {
-      kernel = record { seats = []; next = s.kernel_next; grants = s.grants; ready = replicate 16 []; yielded = replicate 16 false };
+      kernel = record {
+        seats = [];
+        next = s.kernel_next;
+        grants = s.grants;
+        ready = replicate 16 [];
+        yielded = replicate 16 false;
+      };
       memory = s.memory;
       tiles = empty_tiles;
       links = replicate 256 [];

@@ -47,4 +47,6 @@ pub record CountersBounded (n : ℕ) (m : Machine) : Type 0 where
 
 -- the contexts that come back have low numbers
 abbrev pub RestoresBounded : Machine → Type 0
-RestoresBounded m = (t from a : ℕ) (c : Context) (xs : List Heard) (qs : List Parcel) → link_at from t m ≡ Restore a c xs ∷ qs → has_bounded_counters c ≡ true
+RestoresBounded m =
+    (t from a : ℕ) (c : Context) (xs : List Heard) (qs : List Parcel)
+    → link_at from t m ≡ Restore a c xs ∷ qs → has_bounded_counters c ≡ true

@@ -11,9 +11,11 @@ use Rattle.m3_model.specs.Invariant.Structure.{MachineStructure}
 
 -- what the machine did, with the ideal state and the places that it is then
 abbrev pub placement_result : Site → MachineResult → places_landing.PlacementResult
-placement_result h d = record { said = d.outcome.said; restore = d.outcome.restore; state = ideal_of d.machine; places = placement_of h d.machine }
+placement_result h d =
+    record { said = d.outcome.said; restore = d.outcome.restore; state = ideal_of d.machine; places = placement_of h d.machine }
 
 -- the ideal machine and the places do the same, and the machine stays sound
 abbrev pub Refines : Site → Machine → Event → Option Made → Option MachineResult → Type 0
 Refines h m e made None = Unit {0}
-Refines h m e made (Some d) = (placement_step (ideal_of m) (placement_of h m) e made ≡ Some (placement_result h d)) × MachineStructure h d.machine
+Refines h m e made (Some d) =
+    (placement_step (ideal_of m) (placement_of h m) e made ≡ Some (placement_result h d)) × MachineStructure h d.machine

@@ -4,7 +4,7 @@ use Rattle.std.specs.Prelude.{not, OnOk, Result, Ok, Err}
 use Rattle.std.proofs.lemmas.Bool.{ne_eqb}
 use Rattle.std.proofs.lemmas.Bool.Decides.{nat_tests}
 use Rattle.std.proofs.lemmas.List.{length-set, length-replicate}
-use Rattle.std.proofs.lemmas.Bool.{or_parts}
+use Rattle.std.proofs.lemmas.Bool.{not-false, or_parts}
 use Rattle.std.proofs.lemmas.List.Elements.{All-nil, All-cons}
 use Rattle.std.specs.List.{All}
 use Rattle.m3_base.specs.declared.command.Command.{Command}
@@ -150,12 +150,8 @@ collected_all a ps lines got total none is = sym (ap (λ n. got ++ programs_from
 
 -- ---- the items of a setup are short
 
-unless_not : (b : Bool) → not b ≡ false → b ≡ true
-unless_not true e = refl
-unless_not false e = absurd cc
-
 short_line : (l : SetupLine) (f : Facts) → breaks_rule l f ≡ false → IsShortLine l
-short_line (SetupLine.Item a c) f kept = unless_not (is_short c) (or_parts (not (is_short c)) (forbids_program a ProgramKind.Listed 1 f) kept).0
+short_line (SetupLine.Item a c) f kept = not-false (is_short c) (or_parts (not (is_short c)) (forbids_program a ProgramKind.Listed 1 f) kept).0
 short_line (SetupLine.AwaitItem a ep) f kept = tt
 short_line (SetupLine.Act a t) f kept = tt
 short_line (SetupLine.Quantum q) f kept = tt

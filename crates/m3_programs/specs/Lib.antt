@@ -1,3 +1,4 @@
 pub mod ListProgramView
 pub mod ItemMoves
 pub mod SetupPrograms
+pub mod ListsMove

@@ -3,6 +3,7 @@ pub mod BoundsOfParts
 pub mod TileKeepsBounds
 pub mod KernelKeepsBounds
 pub mod ArriveKeepsBounds
+pub mod SameParts
 pub mod PartStep
 pub mod KernelFrame
 pub mod KernelNumber

@@ -10,7 +10,6 @@ use Rattle.m3_base.specs.Placement.Driver.{tiles, first_for, first_some, least_o
 use Rattle.m3_base.specs.Placement.Order.{least_closing}
 use Rattle.m3_model.specs.Config.KnownActivities.{is_home}
 use Rattle.m3_model.specs.Config.Site.{Home, Site, has_program, home_has_program, home_of}
-use Rattle.m3_model.specs.Events.{IsOfSetup, IsWithin, SuitsPrograms}
 use Rattle.m3_model.specs.Invariant.Structure.{MachineStructure}
 use Rattle.m3_model.specs.Kernel.State.{ActivityEntry}
 use Rattle.m3_model.specs.Kernel.Step.{is_moving_at, ready_at}
@@ -22,13 +21,19 @@ use Rattle.m3_model.specs.Tile.Step.{is_waiting, resident_of}
 use Rattle.m3_refine.proofs.abstraction.EntriesMatchActors.{AreSeats, are_seats}
 use Rattle.m3_refine.proofs.lists.EachElement.{InSome}
 use Rattle.m3_model.specs.Kernel.Driver.{can_tend, least_tend, wanted_at}
+use Rattle.m3_trace.specs.Continuation.{FitsSetup}
 use Rattle.m3_trace.specs.DriverOfMachine.{next_event_left, next_take, next_take_at, next_take_on, take_if, take_on, turn_at, turn_by}
-
-abbrev pub FitsSetup : Site → Event → Type 0
-FitsSetup h e = IsOfSetup h e × IsWithin e × SuitsPrograms h e
 
 below : Each (λ t. t < 16) tiles
 below = (omega arith, (omega arith, (omega arith, (omega arith, (omega arith, (omega arith, (omega arith, (omega arith, (omega arith, (omega arith, (omega arith, (omega arith, (omega arith, (omega arith, (omega arith, (omega arith, tt))))))))))))))))
+
+program_home : (o : Option Home) → home_has_program o ≡ true → is_some o ≡ true
+program_home None e = absurd (cc)
+program_home (Some x) e = refl
+
+-- who has a program has a home
+pub programmed_home : (h : Site) (a : ℕ) → has_program h a ≡ true → is_home h a ≡ true
+programmed_home h a e = program_home (home_of a h) e
 
 module _ (h : Site) where
   first_fits : (os : List (Option Event)) → Each (InSome (FitsSetup h)) os → InSome (FitsSetup h) (first_some os)
@@ -89,13 +94,9 @@ module _ (h : Site) where
 
   -- ---- switches and turns
 
-  program_home : (o : Option Home) → home_has_program o ≡ true → is_some o ≡ true
-  program_home None e = absurd (cc)
-  program_home (Some x) e = refl
-
   switch_fits : (t : ℕ) → t < 16 → (xs : List ℕ) → Each (IsReadyAt h t) xs → InSome (FitsSetup h) (switch_to t xs)
   switch_fits t low [] e = tt
-  switch_fits t low (a ∷ xs) e = (program_home (home_of a h) e.0.1, low, tt)
+  switch_fits t low (a ∷ xs) e = (programmed_home h a e.0.1, low, tt)
 
   turn_fits : (x : Context) (o : Option Resident) → InSome (FitsSetup h) (turn_by h x o)
   turn_fits x None = tt

@@ -16,3 +16,8 @@ pub mod ProgramCalls
 pub mod ValidSetup
 pub mod DriverWithPrograms
 pub mod DriverEventsFit
+pub mod TurnMakesMove
+pub mod EventsAreMade
+pub mod ConfigurationSteps
+pub mod OneMoreEntry
+pub mod RunsGoOn

@@ -1,6 +1,7 @@
 -- What a machine's trace says of a program, and what a call more makes of its calls.
 use Rattle.std.proofs.Common.{◌≡◌, ◌≢◌, ℕ, Bool, true, false, List, [], ◌∷◌, ◌++◌, Option, Some, None, refl, sym, subst, ◌∙◌, ap}
 use Rattle.std.specs.Prelude.{◌==◌, if◌then◌else◌}
+use Rattle.m3_base.specs.Journal.Legal.{opening_of}
 use Rattle.m3_base.specs.declared.event.Entry.{Entry}
 use Rattle.m3_base.specs.declared.event.Event.{Event}
 use Rattle.m3_base.specs.declared.event.Made.{Made}
@@ -70,9 +71,6 @@ ends_last s entries m trace a = by_home (is_home (opened_site s) a) refl
     by_home false e = subst EndsLast (sym (trace.strangers a e)) tt
 
 module _ (s : SetupValue) (entries : List Entry) (m : Machine) (trace : IsTrace s entries m) (a : ℕ) (known : is_home (opened_site s) a ≡ true) where
-  abbrev start : State
-  start = opening s.memory s.lines
-
   -- what is asked is known
   known_seen : (seen : Seen) → turn_ask (opened_site s) (tile_at (tile_of (opened_site s) a) m) a ≡ Program_turn seen → (see : program.Seen) × (input_of_seen seen ≡ Known see)
   known_seen First asks = (program.Seen.First, refl)
@@ -91,6 +89,6 @@ module _ (s : SetupValue) (entries : List Entry) (m : Machine) (trace : IsTrace 
 
   -- the calls lead on by those of a step
   pub leads_grow : {M : Type 0} (moves : M → program.Seen → Move → M → Type 0) (p q r : M) (e : Event) (made : Option Made) (o : Outcome) (next : Machine) → machine_step (opened_site s) m e made ≡ Some (record { outcome = o; machine = next })
-      → Leads moves p (all_calls a start entries) q → Leads moves q (call_asked (opened_site s) m a e o) r → Leads moves p (all_calls a start (entries ++ entry e o ∷ [])) r
+      → Leads moves p (all_calls a (opening_of s) entries) q → Leads moves q (call_asked (opened_site s) m a e o) r → Leads moves p (all_calls a (opening_of s) (entries ++ entry e o ∷ [])) r
   leads_grow moves p q r e made o next step led more =
-      subst (λ cs. Leads moves p cs r) (sym (calls_grow s entries m trace a known e made o next step)) (leads_both moves p q r (all_calls a start entries) (call_asked (opened_site s) m a e o) led more)
+      subst (λ cs. Leads moves p cs r) (sym (calls_grow s entries m trace a known e made o next step)) (leads_both moves p q r (all_calls a (opening_of s) entries) (call_asked (opened_site s) m a e o) led more)

@@ -1,5 +1,6 @@
 -- A journal grows by an entry with each step of its machine, and what its clauses say of the whole.
 use Rattle.std.proofs.Common.{◌≡◌, ◌≢◌, ℕ, true, ◌+◌, ◌<◌, ◌≤◌, List, [], ◌∷◌, ◌++◌, length, length-append, Option, Some, refl, sym, subst, ap, ◌∙◌, arith}
+use Rattle.m3_base.specs.Journal.Legal.{opening_of}
 use Rattle.m3_base.specs.declared.event.Event.{Event}
 use Rattle.m3_base.specs.declared.event.Entry.{Entry}
 use Rattle.m3_base.specs.declared.event.Made.{Made}
@@ -132,16 +133,13 @@ module _ (s : SetupValue) (entries : List Entry) (m : Machine) (trace : IsTrace 
 
   -- ---- what the journal is
 
-  abbrev start : State
-  start = opening s.memory s.lines
-
-  pub trace_run : IsRun start entries
+  pub trace_run : IsRun (opening_of s) entries
   trace_run = (runs_from s trace.valid entries m trace.ran).0
 
-  pub trace_reaches : state_after_entries start entries ≡ ideal_of m
+  pub trace_reaches : state_after_entries (opening_of s) entries ≡ ideal_of m
   trace_reaches = (runs_from s trace.valid entries m trace.ran).1
 
-  pub trace_places : PlacementRun start (placement_at_opening s.lines) entries (placement_of (opened_site s) m)
+  pub trace_places : PlacementRun (opening_of s) (placement_at_opening s.lines) entries (placement_of (opened_site s) m)
   trace_places =
       subst (λ (x : State). PlacementRun x (placement_at_opening s.lines) entries (placement_of (opened_site s) m)) (opens_as s trace.valid).0 (
       subst (λ (p : Placement). PlacementRun (ideal_of (opened_by_setup s)) p entries (placement_of (opened_site s) m)) (opens_as s trace.valid).1 trace.ran.places
@@ -156,14 +154,14 @@ module _ (s : SetupValue) (entries : List Entry) (m : Machine) (trace : IsTrace 
   asked_are_heard a n known = no_waiting_asked h m trace.ran.kept.sound a known trace.waits n
 
   -- what a turn asks a program with is what it is to see
-  pub asked_with : (a : ℕ) (seen : Seen) → is_home h a ≡ true → turn_ask h (tile_at (tile_of h a) m) a ≡ Program_turn seen → last_input a start entries ≡ input_of_seen seen
+  pub asked_with : (a : ℕ) (seen : Seen) → is_home h a ≡ true → turn_ask h (tile_at (tile_of h a) m) a ≡ Program_turn seen → last_input a (opening_of s) entries ≡ input_of_seen seen
   asked_with a seen known asks = trace.hears a known ∙ asked_input h m trace.ran.kept.sound a known seen asks
 
   -- a step calls a program just where its turn asks it, with what it sees
   pub calls_grow : (a : ℕ) → is_home h a ≡ true → (e : Event) (made : Option Made) (o : Outcome) (next : Machine) → machine_step h m e made ≡ Some (record { outcome = o; machine = next })
-      → all_calls a start (entries ++ entry e o ∷ []) ≡ all_calls a start entries ++ call_asked h m a e o
-  calls_grow a known e made o next step = calls_after h m trace.ran.kept.sound a known start entries trace.hears e made o next step
+      → all_calls a (opening_of s) (entries ++ entry e o ∷ []) ≡ all_calls a (opening_of s) entries ++ call_asked h m a e o
+  calls_grow a known e made o next step = calls_after h m trace.ran.kept.sound a known (opening_of s) entries trace.hears e made o next step
 
   -- the laws hold after every entry
-  pub trace_laws : AfterEach (KeepsLaws start) entries
+  pub trace_laws : AfterEach (KeepsLaws (opening_of s)) entries
   trace_laws = journal_laws s entries trace.valid trace.fit trace_run

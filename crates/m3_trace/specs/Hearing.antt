@@ -40,9 +40,13 @@ abbrev pub entry_heard : Option ActivityEntry → List Heard
 entry_heard None = []
 entry_heard (Some x) = residency_heard x.seating
 
+-- on the kernel's link to the activity's tile
+abbrev pub heard_on_link : Site → Machine → ℕ → List Heard
+heard_on_link h m a = flat_map (heard_in a) (link_at 0 (tile_of h a) m)
+
 -- what the activity's tile is still to hear: on the kernel's link to it, and then in the kernel's entry
 abbrev pub heard_away : Site → Machine → ℕ → List Heard
-heard_away h m a = flat_map (heard_in a) (link_at 0 (tile_of h a) m) ++ entry_heard (entry_of a m.kernel)
+heard_away h m a = heard_on_link h m a ++ entry_heard (entry_of a m.kernel)
 
 -- ---- what its program is to see
 

@@ -7,3 +7,5 @@ pub mod Hearing
 pub mod ProgramEnds
 pub mod Trace
 pub mod ProgramsHear
+pub mod TraceFacts
+pub mod Continuation

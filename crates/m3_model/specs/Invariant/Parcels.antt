@@ -31,7 +31,9 @@ HasDestination h to (Some a) = (to ≡ 0) ⊎ (to ≡ tile_of h a)
 abbrev pub ParcelOk : Site → Kernel → List Tile → ℕ → ℕ → Parcel → Type 0
 ParcelOk h k ts from to (Data p) = (is_named h p ≡ true) × HasDestination h to (target p)
 ParcelOk h k ts from to (Save a) = (from ≡ 0) × (is_home h a ≡ true) × (to ≡ tile_of h a)
-ParcelOk h k ts from to (Saved a c waiting ended) = (to ≡ 0) × (is_home h c.act ≡ true) × (from ≡ tile_of h c.act) × EndedFlagIs ended (resident_at h ts c.act) × (a ≡ c.act)
+ParcelOk h k ts from to (Saved a c waiting ended) =
+    (to ≡ 0) × (is_home h c.act ≡ true) × (from ≡ tile_of h c.act) × EndedFlagIs ended (resident_at h ts c.act)
+    × (a ≡ c.act)
 ParcelOk h k ts from to (Restore a c xs) = (from ≡ 0) × (is_home h c.act ≡ true) × (to ≡ tile_of h c.act) × (a ≡ c.act)
 ParcelOk h k ts from to (Yield a) = (to ≡ 0) × (from ≡ tile_of h a) × (is_here_entry (entry_of a k) ≡ true)
 ParcelOk h k ts from to (Closed g) = to ≡ 0

@@ -56,7 +56,8 @@ EntryOk h ts x (Is_coming y) = (y.context.act ≡ x.act) × EndedFlagIs y.ended 
 
 -- each of the kernel's entries
 abbrev pub EntriesOk : Site → List Tile → Kernel → Type 0
-EntriesOk h tiles k = (a : ℕ) (x : ActivityEntry) → entry_of a k ≡ Some x → EntryOk h tiles x x.seating × Each (HoldOk h x.act) x.hold
+EntriesOk h tiles k =
+    (a : ℕ) (x : ActivityEntry) → entry_of a k ≡ Some x → EntryOk h tiles x x.seating × Each (HoldOk h x.act) x.hold
 
 -- the links of the kernel in this machine, for the entries of this kernel
 abbrev pub LinksLeadOn : Site → Machine → Kernel → Type 0
@@ -65,7 +66,8 @@ LinksLeadOn h m k = (t : ℕ) → 2 ≤ t → t < 16 → CurrentAlongLink (curre
 pub record Scheduling (h : Site) (m : Machine) : Type 0 where
   pub seats : EntriesOk h m.tiles m.kernel
   -- a tile with activities has one that is Placed or one that comes, and at most one that leaves
-  pub filled : (t : ℕ) → how_many (is_placed_at h t) m.kernel.seats + how_many (is_coming_at h t) m.kernel.seats ≡ one (has_home t h.homes)
+  pub filled : (t : ℕ)
+      → how_many (is_placed_at h t) m.kernel.seats + how_many (is_coming_at h t) m.kernel.seats ≡ one (has_home t h.homes)
   pub leaving : (t : ℕ) → how_many (is_leaving_at h t) m.kernel.seats ≤ how_many (is_coming_at h t) m.kernel.seats
   -- a Leaving one has exactly one Save or Saved on a link
   pub departing : (a : ℕ) → saves_in_flight a m.links ≡ one (is_leaving_of (entry_of a m.kernel))

@@ -124,7 +124,8 @@ with_restore h said t k out (Some x) = with_restore_of h said t k out x x.seatin
 
 -- where the tile has nobody leaving, and the one that comes has nothing held
 abbrev pub then_restore : Site → Said → ℕ → Kernel → List (ℕ × Parcel) → LocalResult Kernel
-then_restore h said t k out = with_restore h said t k out (if list_any (is_leaving_at h t) k.seats then None else first_due h t k.seats)
+then_restore h said t k out =
+    with_restore h said t k out (if list_any (is_leaving_at h t) k.seats then None else first_due h t k.seats)
 
 -- ---- a take
 
@@ -150,7 +151,9 @@ take_saved h k c waiting ended (Some x) =
     if is_leaving_entry x.seating
     then
     then_restore h (Said.Saved x.act) (tile_of h x.act) (
-    join_ready (has_program h x.act && (not waiting && not ended)) (tile_of h x.act) x.act (with_residency (residency_of_saved c ended) x k)
+    join_ready (has_program h x.act && (not waiting && not ended)) (tile_of h x.act) x.act (
+    with_residency (residency_of_saved c ended) x k
+    )
     ) []
     else dropped_result k
 
@@ -182,7 +185,8 @@ take_data h k p = if is_named h p then take_routed p k (route h p k) else droppe
 -- a Saved has to have a context of its activity
 abbrev pub kernel_take : Site → Kernel → Parcel → LocalResult Kernel
 kernel_take h k (Data p) = take_data h k p
-kernel_take h k (Saved a c waiting ended) = if c.act == a then take_saved h k c waiting ended (entry_of c.act k) else dropped_result k
+kernel_take h k (Saved a c waiting ended) =
+    if c.act == a then take_saved h k c waiting ended (entry_of c.act k) else dropped_result k
 kernel_take h k (Yield a) = take_yield h k a (entry_of a k)
 kernel_take h k (Closed g) = take_closed k g (grant_in k.grants g)
 kernel_take h k (Save a) = dropped_result k
@@ -210,7 +214,9 @@ abbrev pub arrived_context : Context → Option Arrival → Context
 arrived_context c None = c
 arrived_context c (Some r) = r.context
 
-abbrev pub tend_away : Site → Kernel → ActivityEntry → Packet → List Packet → SavedActivity → (SavedActivity → EntryResidency) → Bool → LocalResult Kernel
+abbrev pub tend_away :
+    Site → Kernel → ActivityEntry → Packet → List Packet → SavedActivity
+    → (SavedActivity → EntryResidency) → Bool → LocalResult Kernel
 tend_away h k x p ps y sits ready =
     let r = arrive_fit y.context p in
     tend_arrived h k (
@@ -219,7 +225,9 @@ tend_away h k x p ps y sits ready =
     )
     ) x r
 
-abbrev pub tend_front : Site → Kernel → ActivityEntry → List Packet → SavedActivity → (SavedActivity → EntryResidency) → Bool → LocalResult Kernel
+abbrev pub tend_front :
+    Site → Kernel → ActivityEntry → List Packet → SavedActivity
+    → (SavedActivity → EntryResidency) → Bool → LocalResult Kernel
 tend_front h k x [] y sits ready = idle_result IdleWhy.EmptyHold k
 tend_front h k x (p ∷ ps) y sits ready = tend_away h k x p ps y sits ready
 
@@ -248,14 +256,18 @@ is_moving_at h t x = (tile_of h x.act == t) && (is_leaving_entry x.seating || is
 abbrev pub after_switch : Site → Kernel → ℕ → ActivityEntry → SavedActivity → Option ActivityEntry → LocalResult Kernel
 after_switch h k t x y None = local_result (Said.No No.Leaving) k []
 after_switch h k t x y (Some b) =
-    local_result (Said.Save b.act) (leave_ready t x.act (with_residency (Is_coming y) x (with_residency Is_leaving b k))) ((t, Save b.act) ∷ [])
+    local_result (Said.Save b.act) (
+    leave_ready t x.act (with_residency (Is_coming y) x (with_residency Is_leaving b k))
+    ) ((t, Save b.act) ∷ [])
 
 abbrev pub switch_entry : Site → Kernel → ℕ → ActivityEntry → EntryResidency → LocalResult Kernel
 switch_entry h k t x Is_placed = local_result (Said.No No.Already) k []
 switch_entry h k t x (Is_coming y) = local_result (Said.No No.Already) k []
 switch_entry h k t x Is_leaving = local_result (Said.No No.Leaving) k []
 switch_entry h k t x (Is_resting y) =
-    if list_any (is_moving_at h t) k.seats then local_result (Said.No No.Leaving) k [] else after_switch h k t x y (placed_at h t k.seats)
+    if list_any (is_moving_at h t) k.seats
+    then local_result (Said.No No.Leaving) k []
+    else after_switch h k t x y (placed_at h t k.seats)
 
 abbrev pub switch : Site → Kernel → ℕ → Option ActivityEntry → LocalResult Kernel
 switch h k t None = local_result (Said.No No.NotHome) k []
@@ -286,7 +298,9 @@ revoke_with k g None = local_result (Said.Revoking g) (record k { grants = after
 abbrev pub kernel_order : Site → Kernel → Order → LocalResult Kernel
 kernel_order h k (Order.Switch t a) = switch h k t (entry_of a k)
 kernel_order h k (Order.Grant line) =
-    make_with h k line (make_refusal h.memory k.grants line) (form (length k.grants + 1) line (undone (parent_in k.grants (parent_of line))))
+    make_with h k line (make_refusal h.memory k.grants line) (
+    form (length k.grants + 1) line (undone (parent_in k.grants (parent_of line)))
+    )
 kernel_order h k (Order.Revoke g) = revoke_with k g (revoke_refusal (grant_in k.grants g))
 
 -- ---- close

@@ -15,7 +15,8 @@ abbrev pub may_serve : Site → List ℕ → FlightId → ℕ → ℕ → Bool
 may_serve h memory id place size = is_home h id.issuer && nat_le (place + size) (length memory)
 
 abbrev pub serve_result : Site → List ℕ → FlightId → Answer → LocalResult (List ℕ)
-serve_result h memory id answer = local_result (Said.Landed id) memory ((tile_of h id.issuer, Data (Packet.Answer id answer)) ∷ [])
+serve_result h memory id answer =
+    local_result (Said.Landed id) memory ((tile_of h id.issuer, Data (Packet.Answer id answer)) ∷ [])
 
 abbrev pub serve : Site → List ℕ → Packet → LocalResult (List ℕ)
 serve h memory (Packet.Read id g place buffer) =

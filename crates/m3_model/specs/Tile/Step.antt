@@ -110,7 +110,8 @@ turn_issued h t y m (Some i) =
     ) (new_out h i.packet)
 
 abbrev pub turn_await : Tile → Resident → ℕ → Bool → LocalResult Tile
-turn_await t y ep true = local_result_made (Made.Await ep) Said.Awake (with_resident (record y { pending = None; seen = Awake }) t) []
+turn_await t y ep true =
+    local_result_made (Made.Await ep) Said.Awake (with_resident (record y { pending = None; seen = Awake }) t) []
 turn_await t y ep false =
     yield_result (Made.Await ep) (if y.yield_sent then Said.Asleep else Said.Yield) t (record y { pending = Some ep })
 
@@ -121,7 +122,8 @@ turn_move h t x y (Made.Command c) =
 turn_move h t x y (Made.Await ep) =
     if is_repeat y.pending ep then Some (turn_await t y ep (has_unread (endpoint x ep))) else None
 turn_move h t x y Made.Quantum = None
-turn_move h t x y Made.End = if is_some y.pending then None else Some (yield_result Made.End Said.Ended t (record y { ended = true }))
+turn_move h t x y Made.End =
+    if is_some y.pending then None else Some (yield_result Made.End Said.Ended t (record y { ended = true }))
 
 abbrev pub turn_quantum : Tile → Resident → Made → Option (LocalResult Tile)
 turn_quantum t y Made.Quantum = Some (yield_result Made.Quantum Said.Yield t y)
@@ -197,7 +199,9 @@ abbrev pub take_save : Tile → ℕ → Option Context → LocalResult Tile
 take_save t a None = dropped_result t
 take_save t a (Some x) =
     if x.act == a
-    then local_result (Said.Saving a) (with_current None t) ((0, Saved x.act x (is_waiting_resident x (resident_of a t)) (has_ended (resident_of a t))) ∷ [])
+    then local_result (Said.Saving a) (with_current None t) (
+    (0, Saved x.act x (is_waiting_resident x (resident_of a t)) (has_ended (resident_of a t))) ∷ []
+    )
     else dropped_result t
 
 -- the stay begins, and its program hears what came while it was away
@@ -206,7 +210,8 @@ resident_at_restore xs y = record y { moves = 0; yield_sent = false; seen = seen
 
 abbrev pub after_restore : Tile → Context → List Heard → Option Resident → LocalResult Tile
 after_restore t x xs None = dropped_result t
-after_restore t x xs (Some y) = local_result (Said.Current x.act) (with_resident (resident_at_restore xs y) (with_current (Some x) t)) []
+after_restore t x xs (Some y) =
+    local_result (Said.Current x.act) (with_resident (resident_at_restore xs y) (with_current (Some x) t)) []
 
 -- the context is of this activity; it names activities of the setup alone, and its numbers are low
 abbrev pub may_return : Site → ℕ → Context → Bool

@@ -12,27 +12,9 @@ use Rattle.m3_model.specs.Memory.Step.{memory_take}
 use Rattle.m3_model.specs.Tile.State.{Tile}
 use Rattle.m3_model.specs.Tile.Step.{tile_turn}
 use Rattle.m3_model.specs.LocalStep.{LocalResult}
-use Rattle.m3_model.specs.Machine.{Machine, Part, Kernel_part, Memory_part, Tile_part, MachineResult, tile_at, part_at, with_part, with_parcel, with_parcels, of_turn, part_step, tile_for_event, parcel_taken, without_front, done_by, machine_step}
+use Rattle.m3_model.specs.Machine.{Machine, Part, Kernel_part, Memory_part, Tile_part, MachineResult, tile_at, part_at, with_part, with_parcels, of_turn, part_step, tile_for_event, parcel_taken, without_front, done_by, machine_step}
 use Rattle.m3_refine.proofs.lists.EachElement.{InSome}
-
--- ---- links move neither
-
-record SameParts (m n : Machine) : Type 0 where
-  pub kernel : n.kernel ≡ m.kernel
-  pub memory : n.memory ≡ m.memory
-
-pushed : (t : ℕ) (out : List (ℕ × Parcel)) (m : Machine) → SameParts m (with_parcels t out m)
-pushed t [] m = record { kernel = refl; memory = refl }
-pushed t (x ∷ xs) m = let r = pushed t xs (with_parcel t x m) in record { kernel = r.kernel; memory = r.memory }
-
-popped : (e : Event) (m : Machine) → SameParts m (without_front e m)
-popped (Event.Take to from) m = record { kernel = refl; memory = refl }
-popped (Event.Do a c) m = record { kernel = refl; memory = refl }
-popped (Event.Turn a) m = record { kernel = refl; memory = refl }
-popped (Event.Tend a) m = record { kernel = refl; memory = refl }
-popped Event.Close m = record { kernel = refl; memory = refl }
-popped (Event.Order o) m = record { kernel = refl; memory = refl }
-popped (Event.File l) m = record { kernel = refl; memory = refl }
+use Rattle.m3_refine.proofs.bounds.SameParts.{parts_with_parcels, parts_without_front}
 
 -- ---- a step
 
@@ -97,9 +79,9 @@ module _ (h : Site) (Before After : Kernel → Type 0) (Memory : List ℕ → Ty
         by_tests false false = tt
 
     with_kept : (t : ℕ) (x : Part) → HoldsOfPart After Memory x → After (with_part t x (without_front e m)).kernel × Memory (with_part t x (without_front e m)).memory
-    with_kept t (Kernel_part k) l = (l, subst Memory (sym (popped e m).memory) memory)
-    with_kept t (Memory_part x) l = (subst After (sym (popped e m).kernel) (keeps.idle m.kernel kernel), l)
-    with_kept t (Tile_part x) l = (subst After (sym (popped e m).kernel) (keeps.idle m.kernel kernel), subst Memory (sym (popped e m).memory) memory)
+    with_kept t (Kernel_part k) l = (l, subst Memory (sym (parts_without_front e m).memory) memory)
+    with_kept t (Memory_part x) l = (subst After (sym (parts_without_front e m).kernel) (keeps.idle m.kernel kernel), l)
+    with_kept t (Tile_part x) l = (subst After (sym (parts_without_front e m).kernel) (keeps.idle m.kernel kernel), subst Memory (sym (parts_without_front e m).memory) memory)
 
     done_keeps : (t : ℕ) (o : Option (LocalResult Part)) → HoldsAfter o → (d : MachineResult) → done_by t (without_front e m) o ≡ Some d → After d.machine.kernel × Memory d.machine.memory
     done_keeps t None r d is = absurd (cc)
@@ -107,8 +89,8 @@ module _ (h : Site) (Before After : Kernel → Type 0) (Memory : List ℕ → Ty
         let after = with_part t x.part (without_front e m) in
         let same : with_parcels t x.out after ≡ d.machine = by_some (record { outcome = x.outcome; machine = with_parcels t x.out after }) is in
         let kept = with_kept t x.part r in (
-          subst After (sym (pushed t x.out after).kernel ∙ ap (λ z. z.kernel) same) kept.0,
-          subst Memory (sym (pushed t x.out after).memory ∙ ap (λ z. z.memory) same) kept.1,
+          subst After (sym (parts_with_parcels t x.out after).kernel ∙ ap (λ z. z.kernel) same) kept.0,
+          subst Memory (sym (parts_with_parcels t x.out after).memory ∙ ap (λ z. z.memory) same) kept.1,
         )
       where
         by_some : (y : MachineResult) → Some y ≡ Some d → y.machine ≡ d.machine

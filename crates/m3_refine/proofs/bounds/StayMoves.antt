@@ -28,6 +28,7 @@ use Rattle.m3_model.specs.Tile.Step.{act_in, after_restore, arrive_named, bounce
 use Rattle.m3_refine.proofs.events.turn.TurnResults.{HoldsInCases, each_turn}
 use Rattle.m3_refine.proofs.lists.EachElement.{InSome, each_found, each_read, each_replaced, each_write}
 use Rattle.m3_refine.proofs.opening.OpensRefines.{first_machine}
+use Rattle.m3_refine.proofs.bounds.SameParts.{parts_with_parcels, parts_without_front}
 
 few_more : (n : ℕ) (t : Tile) → HasFewMoves n t → HasFewMoves (n + 1) t
 few_more n t l = each_map (λ (y : Resident). y.moves ≤ n) (λ y. y.moves ≤ n + 1) (λ y k. omega (arith, k)) t.stays l
@@ -153,20 +154,6 @@ module _ (h : Site) (n : ℕ) where
   part_keeps (Memory_part x) (Event.File f) made q l = tt
   part_keeps (Tile_part t) (Event.File f) made q l = tt
 
-  -- links move no stay
-  pushed : (t : ℕ) (out : List (ℕ × Parcel)) (m : Machine) → (with_parcels t out m).tiles ≡ m.tiles
-  pushed t [] m = refl
-  pushed t (x ∷ xs) m = pushed t xs (with_parcel t x m)
-
-  popped : (e : Event) (m : Machine) → (without_front e m).tiles ≡ m.tiles
-  popped (Event.Take to from) m = refl
-  popped (Event.Do a c) m = refl
-  popped (Event.Turn a) m = refl
-  popped (Event.Tend a) m = refl
-  popped Event.Close m = refl
-  popped (Event.Order o) m = refl
-  popped (Event.File l) m = refl
-
   module _ (m : Machine) (few : StaysAreShort n m) where
     at_tile : (t : ℕ) → OfPart n (part_at t m)
     at_tile t = by_tests (t == 0) (t == 1)
@@ -180,16 +167,16 @@ module _ (h : Site) (n : ℕ) where
     all_more = each_map (HasFewMoves n) (HasFewMoves (n + 1)) (few_more n) m.tiles few
 
     with_kept : (t : ℕ) (x : Part) (e : Event) → OfPart (n + 1) x → StaysAreShort (n + 1) (with_part t x (without_front e m))
-    with_kept t (Kernel_part k) e l = subst (Each (HasFewMoves (n + 1))) (sym (popped e m)) all_more
-    with_kept t (Memory_part x) e l = subst (Each (HasFewMoves (n + 1))) (sym (popped e m)) all_more
-    with_kept t (Tile_part x) e l = each_write (HasFewMoves (n + 1)) (without_front e m).tiles t x (subst (Each (HasFewMoves (n + 1))) (sym (popped e m)) all_more) l
+    with_kept t (Kernel_part k) e l = subst (Each (HasFewMoves (n + 1))) (sym (parts_without_front e m).tiles) all_more
+    with_kept t (Memory_part x) e l = subst (Each (HasFewMoves (n + 1))) (sym (parts_without_front e m).tiles) all_more
+    with_kept t (Tile_part x) e l = each_write (HasFewMoves (n + 1)) (without_front e m).tiles t x (subst (Each (HasFewMoves (n + 1))) (sym (parts_without_front e m).tiles) all_more) l
 
     done_keeps : (t : ℕ) (e : Event) (o : Option (LocalResult Part)) → OfStep o → (d : MachineResult) → done_by t (without_front e m) o ≡ Some d → StaysAreShort (n + 1) d.machine
     done_keeps t e None k d is = absurd (cc)
     done_keeps t e (Some x) k d is =
         let after = with_part t x.part (without_front e m) in
         let same : record { outcome = x.outcome; machine = with_parcels t x.out after } ≡ d = cc in
-        subst (λ (z : MachineResult). StaysAreShort (n + 1) z.machine) same (subst (Each (HasFewMoves (n + 1))) (sym (pushed t x.out after)) (with_kept t x.part e k))
+        subst (λ (z : MachineResult). StaysAreShort (n + 1) z.machine) same (subst (Each (HasFewMoves (n + 1))) (sym (parts_with_parcels t x.out after).tiles) (with_kept t x.part e k))
 
     -- each step makes at most one move
     pub stays_kept : (e : Event) (made : Option Made) (d : MachineResult) → machine_step h m e made ≡ Some d → StaysAreShort (n + 1) d.machine

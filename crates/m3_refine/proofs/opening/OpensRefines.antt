@@ -40,7 +40,8 @@ use Rattle.m3_model.specs.Invariant.Parcels.{ParcelOk, YieldsBeforeSaved, EndedF
 use Rattle.m3_model.specs.Invariant.Scheduling.{EntryOk, HoldOk, is_save_of, saves_in_flight, is_leaving_of, is_coming_at}
 use Rattle.m3_model.specs.Invariant.Housing.{resident_at}
 use Rattle.m3_refine.proofs.opening.PlaceAll.{with_homes, all_seated}
-use Rattle.m3_refine.proofs.opening.OpensSound.{homes_of, quantum_of, TilesOk, site_is, lines_are, places_quantum, along_lines, found_there, there_home, tiles_in, no_links, no_link, no_total, none_closed, no_holds, count_none, blank_current, blank_stays}
+use Rattle.m3_base.proofs.ListLookups.{get_replicated}
+use Rattle.m3_refine.proofs.opening.OpensSound.{homes_of, quantum_of, TilesOk, site_is, lines_are, places_quantum, along_lines, found_there, there_home, tiles_in, no_links, no_total, none_closed, no_holds, count_none, blank_current, blank_stays}
 use Rattle.m3_base.specs.Ideal.Flights.{sorted_by_name}
 use Rattle.m3_base.specs.Ideal.FlightNames.{Distinct}
 use Rattle.m3_base.proofs.Options.{some_if_some}
@@ -108,7 +109,7 @@ module _ (h : Site) (s : State) (m : Machine) (l : Along h s h.homes) (high : Ea
       ∙ (λ k. record { memory = s.memory; contexts = s.contexts; flights = sym l.flights k; kernel_next = s.kernel_next; grants = (none_closed 1 m.kernel.grants ∙ j.grants) k })
 
   no_parcels : (from to : ℕ) → link_at from to m ≡ []
-  no_parcels from to = ap (λ z. get_or z (16 * from + to) []) j.links ∙ no_link 256 (16 * from + to)
+  no_parcels from to = ap (λ z. get_or z (16 * from + to) []) j.links ∙ get_replicated 256 (16 * from + to) []
 
   a_home : (a : ℕ) → is_home h a ≡ true → (y : Home) × (home_of a h ≡ Some y)
   a_home a k = some_if_some (home_of a h) k

@@ -156,11 +156,6 @@ pub no_links : {Y : Type 0} (f : Parcel → List Y) (n : ℕ) → flat_links f (
 no_links f zero = refl
 no_links f (suc n) = no_links f n
 
-pub no_link : (n i : ℕ) → get_or {A = List Parcel} (replicate n []) i [] ≡ []
-no_link zero i = refl
-no_link (suc n) zero = refl
-no_link (suc n) (suc i) = no_link n i
-
 pub no_total : (f : List Parcel → ℕ) → f [] ≡ 0 → (n : ℕ) → total f (replicate n []) ≡ 0
 no_total f e zero = refl
 no_total f e (suc n) = let r = no_total f e n in omega arith

@@ -16,7 +16,7 @@ use Rattle.m3_model.specs.Invariant.Structure.{MachineStructure}
 use Rattle.m3_refine.proofs.events.turn.TurnResults.{HoldsInCases, each_turn, turn_own_move}
 use Rattle.m3_refine.proofs.lists.EachElement.{InSome}
 use Rattle.m3_refine.proofs.theorem.NoProgramMoves.{AreTiles, IsNoTurn, OrdersTile, TameIn, new_low, part_tame}
-use Rattle.m3_refine.proofs.theorem.StepIsLocalMove.{event_below, item, moves, tile_below}
+use Rattle.m3_refine.proofs.theorem.StepIsLocalMove.{event_below, homes_below, item, moves}
 
 -- ---- an event that no program makes
 
@@ -128,9 +128,6 @@ module _ (h : Site) (low : (a : ℕ) → tile_of h a < 16) where
 -- ---- the machine's step
 
 module _ (h : Site) (m : Machine) (e : Event) (made : Option Made) (sound : MachineStructure h m) (within : IsWithin e) (high : OrdersTile e) where
-  low : (a : ℕ) → tile_of h a < 16
-  low a = tile_below h sound.setup a (home_of a h) refl
-
   by_deed : (o : Option (LocalResult Part)) → part_step h (part_at (tile_for_event h e) m) e made (parcel_taken e m) ≡ o → InSome (λ d. AreTiles d.out) o → (d : MachineResult) → done_by (tile_for_event h e) (without_front e m) o ≡ Some d
       → MovesByEntry h m (record { event = e; outcome = d.outcome }) d.machine
   by_deed None step sends d done = absurd (cc)
@@ -140,9 +137,9 @@ module _ (h : Site) (m : Machine) (e : Event) (made : Option Made) (sound : Mach
       record {
         item = item h m e x;
         is = refl;
-        moves = moves h m e x sound.tiles sound.links (event_below h low e within) within sends (part_own_move h (parcel_taken e m) made x (part_at (tile_for_event h e) m) e step);
+        moves = moves h m e x sound.tiles sound.links (event_below h (homes_below h sound.setup) e within) within sends (part_own_move h (parcel_taken e m) made x (part_at (tile_for_event h e) m) e step);
       }
       )
 
   pub any_step_moves : (d : MachineResult) → machine_step h m e made ≡ Some d → MovesByEntry h m (record { event = e; outcome = d.outcome }) d.machine
-  any_step_moves d step = by_deed (part_step h (part_at (tile_for_event h e) m) e made (parcel_taken e m)) refl (part_sends h low (part_at (tile_for_event h e) m) e made (parcel_taken e m) high) d step
+  any_step_moves d step = by_deed (part_step h (part_at (tile_for_event h e) m) e made (parcel_taken e m)) refl (part_sends h (homes_below h sound.setup) (part_at (tile_for_event h e) m) e made (parcel_taken e m) high) d step

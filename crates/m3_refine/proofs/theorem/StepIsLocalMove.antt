@@ -310,6 +310,9 @@ pub tile_below : (h : Site) → IsSetup h → (a : ℕ) (o : Option Home) → ho
 tile_below h setup a None e = omega arith
 tile_below h setup a (Some y) e = (setup.tiles a y e).1
 
+pub homes_below : (h : Site) → IsSetup h → (a : ℕ) → tile_of h a < 16
+homes_below h setup a = tile_below h setup a (home_of a h) refl
+
 pub event_below : (h : Site) → ((a : ℕ) → tile_of h a < 16) → (e : Event) → IsWithin e → tile_for_event h e < 16
 event_below h low (Event.Do a c) within = low a
 event_below h low (Event.Turn a) within = low a
@@ -320,9 +323,6 @@ event_below h low (Event.Order o) within = omega arith
 event_below h low (Event.File l) within = omega arith
 
 module _ (h : Site) (m : Machine) (e : Event) (sound : MachineStructure h m) (within : IsWithin e) (unmade : IsNoTurn e) (high : OrdersTile e) where
-  low : (a : ℕ) → tile_of h a < 16
-  low a = tile_below h sound.setup a (home_of a h) refl
-
   by_deed : (o : Option (LocalResult Part)) → part_step h (part_at (tile_for_event h e) m) e None (parcel_taken e m) ≡ o → TameIn o → (d : MachineResult) → done_by (tile_for_event h e) (without_front e m) o ≡ Some d
       → MovesByEntry h m (record { event = e; outcome = d.outcome }) d.machine
   by_deed None step tame d done = absurd (cc)
@@ -333,10 +333,10 @@ module _ (h : Site) (m : Machine) (e : Event) (sound : MachineStructure h m) (wi
         item = item h m e x;
         is = refl;
         moves =
-            moves h m e x sound.tiles sound.links (event_below h low e within) within tame.out
+            moves h m e x sound.tiles sound.links (event_below h (homes_below h sound.setup) e within) within tame.out
             (subst (λ (z : Option Made). part_step h (part_at (tile_for_event h e) m) e z (parcel_taken e m) ≡ Some x) (sym tame.made) step);
       }
       )
 
   pub step_moves : (d : MachineResult) → machine_step h m e None ≡ Some d → MovesByEntry h m (record { event = e; outcome = d.outcome }) d.machine
-  step_moves d step = by_deed (part_step h (part_at (tile_for_event h e) m) e None (parcel_taken e m)) refl (part_tame h low (part_at (tile_for_event h e) m) e None (parcel_taken e m) unmade high) d step
+  step_moves d step = by_deed (part_step h (part_at (tile_for_event h e) m) e None (parcel_taken e m)) refl (part_tame h (homes_below h sound.setup) (part_at (tile_for_event h e) m) e None (parcel_taken e m) unmade high) d step

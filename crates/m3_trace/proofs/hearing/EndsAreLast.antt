@@ -1,5 +1,6 @@
 -- Along a run a program's end is its last call: from then on its resident has ended, and no turn of it is made.
 use Rattle.std.proofs.Common.{◌≡◌, ◌≢◌, ℕ, ◌<◌, Bool, true, false, cond, List, [], ◌∷◌, ◌++◌, get_or, set, Option, Some, None, refl, sym, subst, ◌∙◌, ap, arith}
+use Rattle.std.proofs.Math.Bool.{or-false}
 use Rattle.std.specs.Prelude.{◌==◌, ◌||◌, if◌then◌else◌}
 use Rattle.std.proofs.lemmas.Bool.Decides.{nat_tests}
 use Rattle.std.proofs.lemmas.Option.{same_Some}
@@ -30,23 +31,14 @@ use Rattle.m3_refine.proofs.events.turn.TurnAnswers.{turn_asked}
 use Rattle.m3_refine.proofs.lists.EachElement.{InSome}
 use Rattle.m3_refine.proofs.lists.Update.{get_or-set}
 use Rattle.m3_refine.proofs.theorem.StepIsLocalMove.{event_below, tile_below}
+use Rattle.m3_refine.proofs.bounds.SameParts.{parts_with_parcels, parts_without_front}
 use Rattle.m3_trace.specs.Hearing.{call_asked, input_of_ask}
 use Rattle.m3_trace.specs.JournalEntry.{entry}
 use Rattle.m3_trace.specs.ProgramEnds.{EndsAs, EndsLast, ProgramsEnd, has_end}
-use Rattle.m3_trace.proofs.hearing.LinksBringAnswers.{pushed}
 use Rattle.m3_trace.proofs.hearing.OpeningHears.{new}
-use Rattle.m3_trace.proofs.hearing.PartEnds.{EndsNone, TileEnds, TurnEnds, ends_by, is_end_made, kernel_ends, memory_ends, or_false, tile_ends, turn_ends}
+use Rattle.m3_trace.proofs.hearing.PartEnds.{EndsNone, TileEnds, TurnEnds, ends_by, is_end_made, kernel_ends, memory_ends, tile_ends, turn_ends}
 
 -- ---- the machine
-
-front_tiles : (e : Event) (m : Machine) → (without_front e m).tiles ≡ m.tiles
-front_tiles (Event.Take to from) m = refl
-front_tiles (Event.Do a c) m = refl
-front_tiles (Event.Turn a) m = refl
-front_tiles (Event.Tend a) m = refl
-front_tiles Event.Close m = refl
-front_tiles (Event.Order o) m = refl
-front_tiles (Event.File l) m = refl
 
 module _ (h : Site) (m : Machine) (sound : MachineStructure h m) (a : ℕ) (known : is_home h a ≡ true) where
   abbrev gone : Bool
@@ -58,20 +50,20 @@ module _ (h : Site) (m : Machine) (sound : MachineStructure h m) (a : ℕ) (know
   module _ (e : Event) (t : ℕ) (ht : t < 16) where
     none_ends : (x : LocalResult Part) → EndsNone a e x → Ends e (record { outcome = x.outcome; machine = with_parcels t x.out (with_part t x.part (without_front e m)) })
     none_ends x k =
-        ap (λ ts. has_ended (resident_at h ts a)) ((pushed t x.out (with_part t x.part (without_front e m))).tiles ∙ k.1 t (without_front e m) ∙ front_tiles e m)
-        ∙ sym (or_false gone) ∙ ap (λ b. gone || b) (sym k.0)
+        ap (λ ts. has_ended (resident_at h ts a)) ((parts_with_parcels t x.out (with_part t x.part (without_front e m))).tiles ∙ k.1 t (without_front e m) ∙ (parts_without_front e m).tiles)
+        ∙ sym (or-false gone) ∙ ap (λ b. gone || b) (sym k.0)
 
     tile_then : (x : LocalResult Part) → TileEnds h (tile_at t m) a e x → ((t == tile_of h a) ≡ false → ends_by a e x.outcome ≡ false) → Ends e (record { outcome = x.outcome; machine = with_parcels t x.out (with_part t x.part (without_front e m)) })
     tile_then x k other =
-        ap (λ ts. has_ended (resident_at h ts a)) ((pushed t x.out (with_part t x.part (without_front e m))).tiles)
+        ap (λ ts. has_ended (resident_at h ts a)) ((parts_with_parcels t x.out (with_part t x.part (without_front e m))).tiles)
         ∙ ap (λ p. has_ended (resident_at h (with_part t p (without_front e m)).tiles a)) k.1
-        ∙ ap (λ ts. has_ended (resident_of a (get_or (set ts t k.0) (tile_of h a) (empty_tile (tile_of h a))))) (front_tiles e m)
+        ∙ ap (λ ts. has_ended (resident_of a (get_or (set ts t k.0) (tile_of h a) (empty_tile (tile_of h a))))) (parts_without_front e m).tiles
         ∙ ap (λ (z : Tile). has_ended (resident_of a z)) (get_or-set m.tiles t (tile_of h a) k.0 (empty_tile (tile_of h a)) (subst (λ n. t < n) (sym sound.tiles) ht))
         ∙ by_test (t == tile_of h a) refl
       where
         by_test : (b : Bool) → (t == tile_of h a) ≡ b → has_ended (resident_of a (cond b k.0 (tile_at (tile_of h a) m))) ≡ (gone || ends_by a e x.outcome)
         by_test true i = k.2 ∙ ap (λ v. has_ended (resident_of a (tile_at v m)) || ends_by a e x.outcome) (let z : t ≡ tile_of h a = grind (arith, nat_tests, i) in z)
-        by_test false i = sym (or_false gone) ∙ ap (λ b. gone || b) (sym (other i))
+        by_test false i = sym (or-false gone) ∙ ap (λ b. gone || b) (sym (other i))
 
     abbrev Done : Option (LocalResult Part) → Type 0
     Done o = (d : MachineResult) → done_by t (without_front e m) o ≡ Some d → Ends e d

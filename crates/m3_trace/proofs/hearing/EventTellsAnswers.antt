@@ -30,7 +30,7 @@ use Rattle.m3_refine.proofs.arrival.CurrentContext.{stay_key}
 use Rattle.m3_refine.proofs.events.HomeTile.{home_range}
 use Rattle.m3_refine.proofs.events.take.TileTakesRestore as restores
 use Rattle.m3_refine.proofs.theorem.AnyStepMoves.{unasked_step}
-use Rattle.m3_trace.specs.Hearing.{entry_heard, heard_away, heard_in, input_by, program_input, resident_input}
+use Rattle.m3_trace.specs.Hearing.{entry_heard, heard_away, heard_in, input_by, program_input, resident_input, heard_on_link}
 use Rattle.m3_trace.proofs.hearing.OutcomesTell.{heard_said, input_quiet, seen_more}
 use Rattle.m3_trace.proofs.hearing.KernelKeepsAnswers.{KeepsQuiet}
 use Rattle.m3_trace.proofs.hearing.KernelTellsAnswers.{take_quiet}
@@ -46,17 +46,11 @@ module _ (h : Site) (m : Machine) (sound : MachineStructure h m) (a : ℕ) (know
   abbrev away : List Heard
   away = heard_away h m a
 
-  abbrev on_link : Machine → List Heard
-  on_link n = flat_map (heard_in a) (link_at 0 (tile_of h a) n)
-
   abbrev kept : List Heard
   kept = entry_heard (entry_of a m.kernel)
 
   high : tile_of h a < 16
   high = (home_range h m a sound known).1
-
-  abbrev Goes_by : Event → MachineResult → Type 0
-  Goes_by e d = Goes h m sound a known e d
 
   -- ---- a tile takes Restore: its resident hears what the Restore has
 
@@ -82,7 +76,7 @@ module _ (h : Site) (m : Machine) (sound : MachineStructure h m) (a : ℕ) (know
     abbrev left : Machine
     left = with_link 0 to qs m
 
-    input_then : program_input h restored a ≡ resident_input (cond (to == tile_of h a) (resident_of a (with_resident begun came)) its) (on_link left ++ kept)
+    input_then : program_input h restored a ≡ resident_input (cond (to == tile_of h a) (resident_of a (with_resident begun came)) its) (heard_on_link h left a ++ kept)
     input_then = after_tile h m sound a known left refl refl to (omega (arith, low)) ht (local_result (Said.Current c.act) (with_resident begun came) [])
 
     quiet : input_after_answer a (program_input h m a) (Said.Current c.act) ≡ resident_input its away
@@ -94,7 +88,7 @@ module _ (h : Site) (m : Machine) (sound : MachineStructure h m) (a : ℕ) (know
         away_front : (if c.act == a then xs else []) ≡ []
         away_front = ap (λ b. if b then xs else []) (let z : (c.act == a) ≡ false = grind (arith, nat_tests, d) in z)
 
-        same : on_link left ≡ on_link m
+        same : heard_on_link h left a ≡ heard_on_link h m a
         same = taken_none h m sound a known 0 to (omega arith) ht (Restore c.act c xs ∷ qs) g (λ e f. ap (λ l. l ++ flat_map (heard_in a) qs) (sym away_front))
 
         still : resident_of a (with_resident begun came) ≡ resident_of a (tile_at to m)
@@ -114,8 +108,8 @@ module _ (h : Site) (m : Machine) (sound : MachineStructure h m) (a : ℕ) (know
         ∙ ap (resident_input (Some stay.0)) (append_assoc xs (flat_map (heard_in a) qs) kept)
         ∙ ap (input_by stay.0.pending) (seen_more stay.0.seen xs (flat_map (heard_in a) qs ++ kept))
         ∙ ap (λ l. resident_input (Some begun) (l ++ kept)) (sym after)
-        ∙ ap (λ o. resident_input o (on_link left ++ kept)) (sym now)
-        ∙ ap (λ b. resident_input (cond b (resident_of a (with_resident begun came)) its) (on_link left ++ kept)) (sym here)
+        ∙ ap (λ o. resident_input o (heard_on_link h left a ++ kept)) (sym now)
+        ∙ ap (λ b. resident_input (cond b (resident_of a (with_resident begun came)) its) (heard_on_link h left a ++ kept)) (sym here)
         ∙ sym input_then
       where
         lives : to ≡ tile_of h a
@@ -127,12 +121,12 @@ module _ (h : Site) (m : Machine) (sound : MachineStructure h m) (a : ℕ) (know
         mine : its ≡ Some stay.0
         mine = ap (λ v. resident_of a (tile_at v m)) (sym lives) ∙ ap (λ n. resident_of n (tile_at to m)) k ∙ stay.1
 
-        before : on_link m ≡ xs ++ flat_map (heard_in a) qs
+        before : heard_on_link h m a ≡ xs ++ flat_map (heard_in a) qs
         before =
             ap (λ v. flat_map (heard_in a) (link_at 0 v m)) (sym lives) ∙ ap (flat_map (heard_in a)) g
             ∙ ap (λ b. (if b then xs else []) ++ flat_map (heard_in a) qs) (let z : (c.act == a) ≡ true = grind (arith, nat_tests, k) in z)
 
-        after : on_link left ≡ flat_map (heard_in a) qs
+        after : heard_on_link h left a ≡ flat_map (heard_in a) qs
         after =
             ap (λ v. flat_map (heard_in a) (link_at 0 v left)) (sym lives)
             ∙ ap (flat_map (heard_in a)) (get_or-set_same m.links (16 * 0 + to) qs [] (let n = sound.links in omega (arith, ht, n)))
@@ -148,7 +142,7 @@ module _ (h : Site) (m : Machine) (sound : MachineStructure h m) (a : ℕ) (know
         by_act true d = own_act (grind (arith, nat_tests, d))
         by_act false d = other_act d
 
-    restore_goes : (made : Option Made) (d : MachineResult) → machine_step h m (Event.Take to 0) made ≡ Some d → Goes_by (Event.Take to 0) d
+    restore_goes : (made : Option Made) (d : MachineResult) → machine_step h m (Event.Take to 0) made ≡ Some d → Goes h m sound a known (Event.Take to 0) d
     restore_goes made d is =
         from_result h m sound a known (Event.Take to 0) (record { outcome = record { made = None; said = Said.Current c.act; restore = None }; machine = restored }) restored_goes d
         (sym (restores.step h m to low ht sound c xs qs g numbers) ∙ unasked_step h m (Event.Take to 0) made tt ∙ is)
@@ -160,15 +154,15 @@ module _ (h : Site) (m : Machine) (sound : MachineStructure h m) (a : ℕ) (know
     left_by l = with_link from to (rest l) m
 
     abbrev Took : List Parcel → Part → Type 0
-    Took l x = (d : MachineResult) → done_by to (with_link from to (rest l) m) (part_step h x (Event.Take to from) made (front l)) ≡ Some d → Goes_by (Event.Take to from) d
+    Took l x = (d : MachineResult) → done_by to (with_link from to (rest l) m) (part_step h x (Event.Take to from) made (front l)) ≡ Some d → Goes h m sound a known (Event.Take to from) d
 
     abbrev took : LocalResult Part → List Parcel → MachineResult
     took x l = record { outcome = x.outcome; machine = with_parcels to x.out (with_part to x.part (with_link from to (rest l) m)) }
 
-    result : (l : List Parcel) (x : LocalResult Part) → Goes_by (Event.Take to from) (took x l) → (d : MachineResult) → Some (took x l) ≡ Some d → Goes_by (Event.Take to from) d
+    result : (l : List Parcel) (x : LocalResult Part) → Goes h m sound a known (Event.Take to from) (took x l) → (d : MachineResult) → Some (took x l) ≡ Some d → Goes h m sound a known (Event.Take to from) d
     result l x g d is = from_result h m sound a known (Event.Take to from) (took x l) g d is
 
-    kernel_did : to ≡ 0 → (l : List Parcel) → link_at from to m ≡ l → (d : LocalResult Kernel) → KeepsQuiet h sound.setup.homes a m.kernel d → Goes_by (Event.Take to from) (took (of_kernel d) l)
+    kernel_did : to ≡ 0 → (l : List Parcel) → link_at from to m ≡ l → (d : LocalResult Kernel) → KeepsQuiet h sound.setup.homes a m.kernel d → Goes h m sound a known (Event.Take to from) (took (of_kernel d) l)
     kernel_did z l g d k =
         subst (λ t. input_after_answer a (program_input h m a) d.outcome.said ≡ program_input h (with_parcels t d.out (with_part t (Kernel_part d.part) (with_link from to (rest l) m))) a) (sym z)
         (kernel_takes h m sound a known to from ht hf made z l g d k)
@@ -177,7 +171,7 @@ module _ (h : Site) (m : Machine) (sound : MachineStructure h m) (a : ℕ) (know
     kernel_took z [] g d is = result [] (of_kernel (idle_result IdleWhy.EmptyLink m.kernel)) (kernel_did z [] g (idle_result IdleWhy.EmptyLink m.kernel) (refl, refl)) d is
     kernel_took z (q ∷ qs) g d is = result (q ∷ qs) (of_kernel (kernel_take h m.kernel q)) (kernel_did z (q ∷ qs) g (kernel_take h m.kernel q) (take_quiet h sound.setup.homes a m.kernel q (kernel_own h m sound))) d is
 
-    memory_did : to ≡ 1 → (l : List Parcel) → link_at from to m ≡ l → (d : LocalResult (List ℕ)) → heard_said a d.outcome.said ≡ [] → Goes_by (Event.Take to from) (took (of_memory d) l)
+    memory_did : to ≡ 1 → (l : List Parcel) → link_at from to m ≡ l → (d : LocalResult (List ℕ)) → heard_said a d.outcome.said ≡ [] → Goes h m sound a known (Event.Take to from) (took (of_memory d) l)
     memory_did z l g d k =
         subst (λ t. input_after_answer a (program_input h m a) d.outcome.said ≡ program_input h (with_parcels t d.out (with_part t (Memory_part d.part) (with_link from to (rest l) m))) a) (sym z)
         (memory_takes h m sound a known to from ht hf made z l g d k)
@@ -196,23 +190,23 @@ module _ (h : Site) (m : Machine) (sound : MachineStructure h m) (a : ℕ) (know
 
       tile_did : (l : List Parcel) → link_at from to m ≡ l → flat_map (heard_in a) (rest l) ≡ flat_map (heard_in a) l → (d : LocalResult Tile)
           → ((to == tile_of h a) ≡ true → input_after_answer a (resident_input (resident_of a (tile_at to m)) away) d.outcome.said ≡ resident_input (resident_of a d.part) away)
-          → ((to == tile_of h a) ≡ false → heard_said a d.outcome.said ≡ []) → Goes_by (Event.Take to from) (took (of_tile d) l)
+          → ((to == tile_of h a) ≡ false → heard_said a d.outcome.said ≡ []) → Goes h m sound a known (Event.Take to from) (took (of_tile d) l)
       tile_did l g none d now other = tile_takes h m sound a known to from ht hf made one l (taken_none h m sound a known from to hf ht l g (λ e k. none)) d now other
 
-      dropped : (q : Parcel) (qs : List Parcel) → link_at from to m ≡ q ∷ qs → heard_in a q ≡ [] → Goes_by (Event.Take to from) (took (of_tile (dropped_result x)) (q ∷ qs))
+      dropped : (q : Parcel) (qs : List Parcel) → link_at from to m ≡ q ∷ qs → heard_in a q ≡ [] → Goes h m sound a known (Event.Take to from) (took (of_tile (dropped_result x)) (q ∷ qs))
       dropped q qs g none = tile_did (q ∷ qs) g (ap (λ l. l ++ flat_map (heard_in a) qs) (sym none)) (dropped_result x) (λ e. dropped_tells h x a away) (λ e. refl)
 
       own_parcel : (q : Parcel) (qs : List Parcel) → link_at from to m ≡ q ∷ qs → ParcelOk h m.kernel m.tiles from to q
       own_parcel q qs g = (subst (Each (ParcelOk h m.kernel m.tiles from to)) g (sound.parcels from to hf ht)).0
 
-      restore_took : (b : ℕ) (c : Context) (xs : List Heard) (qs : List Parcel) → link_at from to m ≡ Restore b c xs ∷ qs → (d : MachineResult) → machine_step h m (Event.Take to from) made ≡ Some d → Goes_by (Event.Take to from) d
+      restore_took : (b : ℕ) (c : Context) (xs : List Heard) (qs : List Parcel) → link_at from to m ≡ Restore b c xs ∷ qs → (d : MachineResult) → machine_step h m (Event.Take to from) made ≡ Some d → Goes h m sound a known (Event.Take to from) d
       restore_took b c xs qs g d is =
           let o = own_parcel (Restore b c xs) qs g in
           let front_is : link_at 0 to m ≡ Restore c.act c xs ∷ qs = ap (λ f. link_at f to m) (sym o.0) ∙ g ∙ ap (λ n. Restore n c xs ∷ qs) o.3 in
           restore_goes to low ht c xs qs front_is (returns to from b c xs qs g) made d (ap (λ f. machine_step h m (Event.Take to f) made) (sym o.0) ∙ is)
 
       tile_took : (l : List Parcel) → link_at from to m ≡ l → (d : MachineResult) → machine_step h m (Event.Take to from) made ≡ Some d
-          → done_by to (with_link from to (rest l) m) (part_step h (Tile_part x) (Event.Take to from) made (front l)) ≡ Some d → Goes_by (Event.Take to from) d
+          → done_by to (with_link from to (rest l) m) (part_step h (Tile_part x) (Event.Take to from) made (front l)) ≡ Some d → Goes h m sound a known (Event.Take to from) d
       tile_took [] g d whole is =
           result [] (of_tile (idle_result IdleWhy.EmptyLink x)) (tile_did [] g refl (idle_result IdleWhy.EmptyLink x) (λ e. input_quiet a (resident_of a x) away (Said.Idle IdleWhy.EmptyLink) refl) (λ e. refl)) d is
       tile_took (Data p ∷ qs) g d whole is =
@@ -226,12 +220,12 @@ module _ (h : Site) (m : Machine) (sound : MachineStructure h m) (a : ℕ) (know
       tile_took (Yield b ∷ qs) g d whole is = result (Yield b ∷ qs) (of_tile (dropped_result x)) (dropped (Yield b) qs g refl) d is
       tile_took (Closed k ∷ qs) g d whole is = result (Closed k ∷ qs) (of_tile (dropped_result x)) (dropped (Closed k) qs g refl) d is
 
-    take_goes : (d : MachineResult) → machine_step h m (Event.Take to from) made ≡ Some d → Goes_by (Event.Take to from) d
+    take_goes : (d : MachineResult) → machine_step h m (Event.Take to from) made ≡ Some d → Goes h m sound a known (Event.Take to from) d
     take_goes d is = by_tests (to == 0) (to == 1) refl refl is
       where
         by_tests : (b c : Bool) → (to == 0) ≡ b → (to == 1) ≡ c
             → done_by to (with_link from to (rest (link_at from to m)) m) (part_step h (if b then Kernel_part m.kernel else (if c then Memory_part m.memory else Tile_part (tile_at to m))) (Event.Take to from) made (front (link_at from to m))) ≡ Some d
-            → Goes_by (Event.Take to from) d
+            → Goes h m sound a known (Event.Take to from) d
         by_tests true c e f k = kernel_took (grind (arith, nat_tests, e)) (link_at from to m) refl d k
         by_tests false true e f k = memory_took (grind (arith, nat_tests, f)) (link_at from to m) refl d k
         by_tests false false e f k =

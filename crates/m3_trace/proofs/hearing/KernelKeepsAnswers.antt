@@ -34,18 +34,18 @@ pub record KernelOwn (h : Site) (k : Kernel) : Type 0 where
   pub order : map entry_act k.seats ≡ map home_act h.homes
   pub own : (z : ActivityEntry) → entry_of z.act k ≡ Some z → OwnContext z.act z.seating
 
-module _ (h : Site) (apart : DistinctHomes h.homes) where
-  -- who comes, or is Placed, is in the kernel's entry of its activity
-  abbrev Stands : Kernel → Option ActivityEntry → Type 0
-  Stands k o = InSome (λ b. entry_of b.act k ≡ Some b) o
+-- the entry, where there is one, is the kernel's entry of its activity
+abbrev pub IsEntryOf : Kernel → Option ActivityEntry → Type 0
+IsEntryOf k o = InSome (λ b. entry_of b.act k ≡ Some b) o
 
-  due_there : (t : ℕ) (k : Kernel) (xs : List ActivityEntry) (ys : List Home) → AreSeats h k xs ys → Stands k (first_due h t xs)
+module _ (h : Site) (apart : DistinctHomes h.homes) where
+  due_there : (t : ℕ) (k : Kernel) (xs : List ActivityEntry) (ys : List Home) → AreSeats h k xs ys → IsEntryOf k (first_due h t xs)
   due_there t k [] [] s = tt
   due_there t k [] (y ∷ ys) s = absurd s
   due_there t k (x ∷ xs) [] s = absurd s
   due_there t k (x ∷ xs) (y ∷ ys) s = by_test (is_due_entry h t x) (due_there t k xs ys s.1)
     where
-      by_test : (b : Bool) → Stands k (first_due h t xs) → Stands k (if b then Some x else first_due h t xs)
+      by_test : (b : Bool) → IsEntryOf k (first_due h t xs) → IsEntryOf k (if b then Some x else first_due h t xs)
       by_test true r = seat_entry h k x y s.0
       by_test false r = r
 
@@ -171,13 +171,13 @@ module _ (h : Site) (apart : DistinctHomes h.homes) where
       coming x Is_leaving there e = (refl, refl)
       coming x (Is_resting y) there e = (refl, refl)
 
-      maybe : (o : Option ActivityEntry) → Stands k o → Comes (with_restore h said t k out o)
+      maybe : (o : Option ActivityEntry) → IsEntryOf k o → Comes (with_restore h said t k out o)
       maybe None s = (refl, refl)
       maybe (Some x) s = coming x x.seating s refl
 
       pub comes_then : Comes (then_restore h said t k out)
       comes_then = maybe (if list_any (is_leaving_at h t) k.seats then None else first_due h t k.seats) (by_test (list_any (is_leaving_at h t) k.seats))
         where
-          by_test : (b : Bool) → Stands k (if b then None else first_due h t k.seats)
+          by_test : (b : Bool) → IsEntryOf k (if b then None else first_due h t k.seats)
           by_test true = tt
           by_test false = due_there t k k.seats h.homes (are_seats h k own.order apart)

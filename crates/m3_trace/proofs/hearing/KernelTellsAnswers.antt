@@ -33,7 +33,7 @@ use Rattle.m3_refine.proofs.abstraction.ReplaceEntry.{seat_key, seat_then}
 use Rattle.m3_refine.proofs.lists.EachElement.{InSome}
 use Rattle.m3_trace.specs.Hearing.{residency_heard}
 use Rattle.m3_trace.proofs.hearing.OutcomesTell.{arrival_says, heard_packet, heard_said, heard_target}
-use Rattle.m3_trace.proofs.hearing.KernelKeepsAnswers.{KeepsHeard, KeepsQuiet, KernelOwn, OwnContext, StandsPlaced, TellsHeard, comes_then, either, heard_at, heard_sent, heard_still, heard_then, own_then, placed_there, sent_both}
+use Rattle.m3_trace.proofs.hearing.KernelKeepsAnswers.{IsEntryOf, KeepsHeard, KeepsQuiet, KernelOwn, OwnContext, StandsPlaced, TellsHeard, comes_then, either, heard_at, heard_sent, heard_still, heard_then, own_then, placed_there, sent_both}
 
 module _ (h : Site) (apart : DistinctHomes h.homes) (a : ℕ) where
   abbrev Sent : List (ℕ × Parcel) → List Heard
@@ -51,15 +51,11 @@ module _ (h : Site) (apart : DistinctHomes h.homes) (a : ℕ) where
   abbrev Tells : Kernel → LocalResult Kernel → Type 0
   Tells k d = TellsHeard h apart a k d
 
-  -- the kernel's entry of an activity, where it has one
-  abbrev Stands : Kernel → Option ActivityEntry → Type 0
-  Stands k o = InSome (λ x. entry_of x.act k ≡ Some x) o
-
-  stands : (b : ℕ) (k : Kernel) (o : Option ActivityEntry) → entry_of b k ≡ o → Stands k o
+  stands : (b : ℕ) (k : Kernel) (o : Option ActivityEntry) → entry_of b k ≡ o → IsEntryOf k o
   stands b k None e = tt
   stands b k (Some x) e = ap (λ n. entry_of n k) (seat_key b k.seats x e) ∙ e
 
-  stands_for : (k : Kernel) (o : Option ℕ) → Stands k (entry_for o k)
+  stands_for : (k : Kernel) (o : Option ℕ) → IsEntryOf k (entry_for o k)
   stands_for k None = tt
   stands_for k (Some b) = stands b k (entry_of b k) refl
 
@@ -78,7 +74,7 @@ module _ (h : Site) (apart : DistinctHomes h.homes) (a : ℕ) where
     pub own : KernelOwn h r.kernel
     pub heard : Sent r.out ++ At r.kernel ≡ At k
 
-  route_to_keeps : (p : Packet) (k : Kernel) → KernelOwn h k → (o : Option ActivityEntry) → Stands k o → InSome (RouteKeeps k) (route_to h p k o)
+  route_to_keeps : (p : Packet) (k : Kernel) → KernelOwn h k → (o : Option ActivityEntry) → IsEntryOf k o → InSome (RouteKeeps k) (route_to h p k o)
   route_to_keeps p k o None s = tt
   route_to_keeps p k o (Some x) s = by_place (is_placed_entry x.seating)
     where
@@ -240,7 +236,7 @@ module _ (h : Site) (apart : DistinctHomes h.homes) (a : ℕ) where
     entry_tells (Is_resting y) e l = resting_tells y e x.hold l
     entry_tells (Is_coming y) e l = coming_tells y e x.hold l
 
-  by_tells : (k : Kernel) → KernelOwn h k → (o : Option ActivityEntry) → Stands k o → InSome (λ x. Each (HoldOk h x.act) x.hold) o → Tells k (tend_by h k o)
+  by_tells : (k : Kernel) → KernelOwn h k → (o : Option ActivityEntry) → IsEntryOf k o → InSome (λ x. Each (HoldOk h x.act) x.hold) o → Tells k (tend_by h k o)
   by_tells k own None s l = nothing_tells k
   by_tells k own (Some x) s l = entry_tells k own x s x.seating refl l
 
@@ -248,7 +244,7 @@ module _ (h : Site) (apart : DistinctHomes h.homes) (a : ℕ) where
   pub tend_tells : (k : Kernel) (b : ℕ) → KernelOwn h k → ((x : ActivityEntry) → entry_of x.act k ≡ Some x → Each (HoldOk h x.act) x.hold) → Tells k (kernel_tend h k b)
   tend_tells k b own holds = by_tells k own (entry_of b k) (stands b k (entry_of b k) refl) (hold_of (entry_of b k) (stands b k (entry_of b k) refl))
     where
-      hold_of : (o : Option ActivityEntry) → Stands k o → InSome (λ x. Each (HoldOk h x.act) x.hold) o
+      hold_of : (o : Option ActivityEntry) → IsEntryOf k o → InSome (λ x. Each (HoldOk h x.act) x.hold) o
       hold_of None s = tt
       hold_of (Some x) s = holds x s
 
@@ -333,7 +329,7 @@ module _ (h : Site) (apart : DistinctHomes h.homes) (a : ℕ) where
       either h apart a (Keeps k) (list_any (is_moving_at h t) k.seats) (local_result (Said.No No.Leaving) k []) (after_switch h k t x y (placed_at h t k.seats)) (λ i. refl)
       (λ i. switched_keeps k t own x y there e (placed_at h t k.seats) (placed_there h apart t k k.seats h.homes (are_seats h k own.order apart)))
 
-  switch_keeps : (k : Kernel) (t : ℕ) → KernelOwn h k → (o : Option ActivityEntry) → Stands k o → Keeps k (switch h k t o)
+  switch_keeps : (k : Kernel) (t : ℕ) → KernelOwn h k → (o : Option ActivityEntry) → IsEntryOf k o → Keeps k (switch h k t o)
   switch_keeps k t own None s = refl
   switch_keeps k t own (Some x) s =
       either h apart a (Keeps k) (tile_of h x.act == t) (switch_entry h k t x x.seating) (local_result (Said.No No.NotHome) k []) (λ i. switch_entry_keeps k t own x x.seating s refl) (λ i. refl)

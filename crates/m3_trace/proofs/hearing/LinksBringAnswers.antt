@@ -24,17 +24,9 @@ use Rattle.m3_refine.proofs.abstraction.ReplaceEntry.{seat_key}
 use Rattle.m3_refine.proofs.events.HomeTile.{home_range}
 use Rattle.m3_refine.proofs.lists.Insertion.{each-append}
 use Rattle.m3_refine.proofs.lists.Update.{get_or-set, links_set}
-use Rattle.m3_trace.specs.Hearing.{entry_heard, heard_away, heard_in, program_input, residency_heard, resident_input}
+use Rattle.m3_refine.proofs.bounds.SameParts.{parts_with_parcels}
+use Rattle.m3_trace.specs.Hearing.{entry_heard, heard_away, heard_in, program_input, residency_heard, resident_input, heard_on_link}
 use Rattle.m3_trace.proofs.hearing.KernelKeepsAnswers.{KernelOwn, OwnContext, heard_at, heard_sent, heard_when}
-
--- links are neither tiles nor the kernel
-pub record SameParts (m n : Machine) : Type 0 where
-  pub tiles : n.tiles ≡ m.tiles
-  pub kernel : n.kernel ≡ m.kernel
-
-pub pushed : (t : ℕ) (out : List (ℕ × Parcel)) (m : Machine) → SameParts m (with_parcels t out m)
-pushed t [] m = record { tiles = refl; kernel = refl }
-pushed t (x ∷ xs) m = let r = pushed t xs (with_parcel t x m) in record { tiles = r.tiles; kernel = r.kernel }
 
 -- each entry's context is of its own activity
 own_context : (h : Site) (ts : List Tile) (x : ActivityEntry) (w : EntryResidency) → EntryOk h ts x w → OwnContext x.act w
@@ -55,9 +47,6 @@ module _ (h : Site) (m : Machine) (sound : MachineStructure h m) (a : ℕ) (know
 
   high : tile_of h a < 16
   high = (home_range h m a sound known).1
-
-  abbrev on_link : Machine → List Heard
-  on_link n = flat_map (heard_in a) (link_at 0 (tile_of h a) n)
 
   abbrev Sent : List (ℕ × Parcel) → List Heard
   Sent out = heard_sent h sound.setup.homes a out
@@ -87,67 +76,67 @@ module _ (h : Site) (m : Machine) (sound : MachineStructure h m) (a : ℕ) (know
   when_away (Yield b) v e = refl
   when_away (Closed g) v e = refl
 
-  one_sent : (x : ℕ × Parcel) (n : Machine) → length n.links ≡ 256 → on_link (with_parcel 0 x n) ≡ on_link n ++ heard_when h sound.setup.homes a x.0 x.1
+  one_sent : (x : ℕ × Parcel) (n : Machine) → length n.links ≡ 256 → heard_on_link h (with_parcel 0 x n) a ≡ heard_on_link h n a ++ heard_when h sound.setup.homes a x.0 x.1
   one_sent x n len = by_test (x.0 == tile_of h a) refl
     where
-      by_test : (b : Bool) → (x.0 == tile_of h a) ≡ b → on_link (with_parcel 0 x n) ≡ on_link n ++ heard_when h sound.setup.homes a x.0 x.1
+      by_test : (b : Bool) → (x.0 == tile_of h a) ≡ b → heard_on_link h (with_parcel 0 x n) a ≡ heard_on_link h n a ++ heard_when h sound.setup.homes a x.0 x.1
       by_test true e =
           let k : x.0 ≡ tile_of h a = grind (arith, nat_tests, e) in
           ap (λ v. flat_map (heard_in a) (get_or (set n.links (16 * 0 + v) (link_at 0 v n ++ x.1 ∷ [])) (16 * 0 + tile_of h a) [])) k
           ∙ ap (flat_map (heard_in a)) (get_or-set_same n.links (16 * 0 + tile_of h a) (link_at 0 (tile_of h a) n ++ x.1 ∷ []) [] (let z = high in omega (arith, len, z)))
           ∙ each-append (heard_in a) (link_at 0 (tile_of h a) n) (x.1 ∷ [])
-          ∙ ap (λ l. on_link n ++ l) (append-nil (heard_in a x.1) ∙ sym (when_here x.1 x.0 e))
+          ∙ ap (λ l. heard_on_link h n a ++ l) (append-nil (heard_in a x.1) ∙ sym (when_here x.1 x.0 e))
       by_test false e =
           ap (flat_map (heard_in a)) (get_or-set_other n.links (16 * 0 + x.0) (16 * 0 + tile_of h a) (link_at 0 x.0 n ++ x.1 ∷ []) [] (let z : (x.0 ≡ tile_of h a) → ⊥ = (λ i. absurd (let q : (x.0 == tile_of h a) ≡ true = grind (arith, nat_tests, i) in cc)) in (λ i. z (omega (arith, i)))))
-          ∙ sym (append-nil (on_link n)) ∙ ap (λ l. on_link n ++ l) (sym (when_away x.1 x.0 e))
+          ∙ sym (append-nil (heard_on_link h n a)) ∙ ap (λ l. heard_on_link h n a ++ l) (sym (when_away x.1 x.0 e))
 
-  sent_by_kernel : (out : List (ℕ × Parcel)) (n : Machine) → length n.links ≡ 256 → on_link (with_parcels 0 out n) ≡ on_link n ++ Sent out
-  sent_by_kernel [] n len = sym (append-nil (on_link n))
+  sent_by_kernel : (out : List (ℕ × Parcel)) (n : Machine) → length n.links ≡ 256 → heard_on_link h (with_parcels 0 out n) a ≡ heard_on_link h n a ++ Sent out
+  sent_by_kernel [] n len = sym (append-nil (heard_on_link h n a))
   sent_by_kernel (x ∷ xs) n len =
       sent_by_kernel xs (with_parcel 0 x n) (length-set n.links (16 * 0 + x.0) (link_at 0 x.0 n ++ x.1 ∷ []) ∙ len)
-      ∙ ap (λ l. l ++ Sent xs) (one_sent x n len) ∙ append_assoc (on_link n) (heard_when h sound.setup.homes a x.0 x.1) (Sent xs)
+      ∙ ap (λ l. l ++ Sent xs) (one_sent x n len) ∙ append_assoc (heard_on_link h n a) (heard_when h sound.setup.homes a x.0 x.1) (Sent xs)
 
   -- ---- what is taken
 
   -- a take from a link whose front has nothing for it to hear
   pub taken_none : (from to : ℕ) → from < 16 → to < 16 → (l : List Parcel) → link_at from to m ≡ l → (from ≡ 0 → to ≡ tile_of h a → flat_map (heard_in a) (rest l) ≡ flat_map (heard_in a) l)
-      → on_link (with_link from to (rest l) m) ≡ on_link m
+      → heard_on_link h (with_link from to (rest l) m) a ≡ heard_on_link h m a
   taken_none from to hf ht l g none =
-      links_set m.links from to (rest l) hf ht sound.links (λ i j ps. flat_map (heard_in a) ps ≡ on_link m) 0 (tile_of h a) high refl
+      links_set m.links from to (rest l) hf ht sound.links (λ i j ps. flat_map (heard_in a) ps ≡ heard_on_link h m a) 0 (tile_of h a) high refl
       (λ e d. none e d ∙ ap (flat_map (heard_in a)) (sym g) ∙ ap (λ v. flat_map (heard_in a) (link_at v to m)) e ∙ ap (λ v. flat_map (heard_in a) (link_at 0 v m)) d)
 
   -- ---- what is to be seen after a step of a part
 
   module _ (m0 : Machine) (tiles : m0.tiles ≡ m.tiles) where
-    pub after_kernel : (d : LocalResult Kernel) → on_link m0 ≡ on_link m → length m0.links ≡ 256
-        → program_input h (with_parcels 0 d.out (with_part 0 (Kernel_part d.part) m0)) a ≡ resident_input (resident_at h m.tiles a) (on_link m ++ (Sent d.out ++ heard_at h sound.setup.homes a d.part))
+    pub after_kernel : (d : LocalResult Kernel) → heard_on_link h m0 a ≡ heard_on_link h m a → length m0.links ≡ 256
+        → program_input h (with_parcels 0 d.out (with_part 0 (Kernel_part d.part) m0)) a ≡ resident_input (resident_at h m.tiles a) (heard_on_link h m a ++ (Sent d.out ++ heard_at h sound.setup.homes a d.part))
     after_kernel d same len =
         let n : Machine = with_part 0 (Kernel_part d.part) m0 in
-        let r = pushed 0 d.out n in
+        let r = parts_with_parcels 0 d.out n in
         ap (λ ts. resident_input (resident_at h ts a) (heard_away h (with_parcels 0 d.out n) a)) (r.tiles ∙ tiles)
-        ∙ ap (λ k. resident_input (resident_at h m.tiles a) (on_link (with_parcels 0 d.out n) ++ entry_heard (entry_of a k))) r.kernel
+        ∙ ap (λ k. resident_input (resident_at h m.tiles a) (heard_on_link h (with_parcels 0 d.out n) a ++ entry_heard (entry_of a k))) r.kernel
         ∙ ap (λ l. resident_input (resident_at h m.tiles a) (l ++ entry_heard (entry_of a d.part))) (sent_by_kernel d.out n len ∙ ap (λ l. l ++ Sent d.out) same)
-        ∙ ap (resident_input (resident_at h m.tiles a)) (append_assoc (on_link m) (Sent d.out) (entry_heard (entry_of a d.part)))
+        ∙ ap (resident_input (resident_at h m.tiles a)) (append_assoc (heard_on_link h m a) (Sent d.out) (entry_heard (entry_of a d.part)))
 
     module _ (kernel : m0.kernel ≡ m.kernel) where
-      away_then : (t : ℕ) → 1 ≤ t → (out : List (ℕ × Parcel)) (n : Machine) → n.kernel ≡ m0.kernel → n.links ≡ m0.links → heard_away h (with_parcels t out n) a ≡ on_link m0 ++ entry_heard (entry_of a m.kernel)
+      away_then : (t : ℕ) → 1 ≤ t → (out : List (ℕ × Parcel)) (n : Machine) → n.kernel ≡ m0.kernel → n.links ≡ m0.links → heard_away h (with_parcels t out n) a ≡ heard_on_link h m0 a ++ entry_heard (entry_of a m.kernel)
       away_then t low out n k l =
           ap (λ qs. flat_map (heard_in a) qs ++ entry_heard (entry_of a (with_parcels t out n).kernel)) (sent_elsewhere t low out n)
-          ∙ ap (λ z. on_link n ++ entry_heard (entry_of a z)) ((pushed t out n).kernel ∙ k ∙ kernel)
+          ∙ ap (λ z. heard_on_link h n a ++ entry_heard (entry_of a z)) ((parts_with_parcels t out n).kernel ∙ k ∙ kernel)
           ∙ ap (λ z. flat_map (heard_in a) (get_or z (16 * 0 + tile_of h a) []) ++ entry_heard (entry_of a m.kernel)) l
 
-      pub after_memory : (d : LocalResult (List ℕ)) → program_input h (with_parcels 1 d.out (with_part 1 (Memory_part d.part) m0)) a ≡ resident_input (resident_at h m.tiles a) (on_link m0 ++ entry_heard (entry_of a m.kernel))
+      pub after_memory : (d : LocalResult (List ℕ)) → program_input h (with_parcels 1 d.out (with_part 1 (Memory_part d.part) m0)) a ≡ resident_input (resident_at h m.tiles a) (heard_on_link h m0 a ++ entry_heard (entry_of a m.kernel))
       after_memory d =
           let n : Machine = with_part 1 (Memory_part d.part) m0 in
-          ap (λ ts. resident_input (resident_at h ts a) (heard_away h (with_parcels 1 d.out n) a)) ((pushed 1 d.out n).tiles ∙ tiles)
+          ap (λ ts. resident_input (resident_at h ts a) (heard_away h (with_parcels 1 d.out n) a)) ((parts_with_parcels 1 d.out n).tiles ∙ tiles)
           ∙ ap (resident_input (resident_at h m.tiles a)) (away_then 1 (omega arith) d.out n refl refl)
 
       -- where it is at home at that tile, and where it isn't
       pub after_tile : (t : ℕ) → 1 ≤ t → t < 16 → (d : LocalResult Tile)
-          → program_input h (with_parcels t d.out (with_part t (Tile_part d.part) m0)) a ≡ resident_input (cond (t == tile_of h a) (resident_of a d.part) (resident_at h m.tiles a)) (on_link m0 ++ entry_heard (entry_of a m.kernel))
+          → program_input h (with_parcels t d.out (with_part t (Tile_part d.part) m0)) a ≡ resident_input (cond (t == tile_of h a) (resident_of a d.part) (resident_at h m.tiles a)) (heard_on_link h m0 a ++ entry_heard (entry_of a m.kernel))
       after_tile t low ht d =
           let n : Machine = with_part t (Tile_part d.part) m0 in
-          ap (λ ts. resident_input (resident_at h ts a) (heard_away h (with_parcels t d.out n) a)) ((pushed t d.out n).tiles ∙ ap (λ ts. set ts t d.part) tiles)
+          ap (λ ts. resident_input (resident_at h ts a) (heard_away h (with_parcels t d.out n) a)) ((parts_with_parcels t d.out n).tiles ∙ ap (λ ts. set ts t d.part) tiles)
           ∙ ap (λ x. resident_input (resident_of a x) (heard_away h (with_parcels t d.out n) a)) (get_or-set m.tiles t (tile_of h a) d.part (empty_tile (tile_of h a)) (subst (λ k. t < k) (sym sound.tiles) ht))
           ∙ ap (λ o. resident_input o (heard_away h (with_parcels t d.out n) a)) (by_test (t == tile_of h a))
           ∙ ap (resident_input (cond (t == tile_of h a) (resident_of a d.part) (resident_at h m.tiles a))) (away_then t low d.out n refl refl)
@@ -177,7 +166,7 @@ module _ (h : Site) (m : Machine) (sound : MachineStructure h m) (a : ℕ) (know
     no_restore (Yield b) e k = refl
     no_restore (Closed g) e k = refl
 
-    none_on_way : on_link m ≡ []
+    none_on_way : heard_on_link h m a ≡ []
     none_on_way =
         none_of_each (link_at 0 (tile_of h a) m)
         (by_contexts (IsOther c.act) (ParcelOk h m.kernel m.tiles 0 (tile_of h a)) (λ q. heard_in a q ≡ []) no_restore (link_at 0 (tile_of h a) m)

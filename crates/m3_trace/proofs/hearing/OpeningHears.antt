@@ -8,6 +8,7 @@ use Rattle.m3_base.specs.Ideal.State.{State, context_of, same_act}
 use Rattle.m3_base.specs.Lists.EachElement.{Each}
 use Rattle.m3_base.specs.Lists.Keyed as keyed
 use Rattle.m3_base.specs.Setup.Rules.{IsValid, SetupValue}
+use Rattle.m3_base.proofs.ListLookups.{get_replicated}
 use Rattle.m3_base.proofs.Options.{some_if_some}
 use Rattle.m3_merge.proofs.MergedIsRun.{each_append}
 use Rattle.m3_model.specs.Abstraction.{flat_map}
@@ -46,11 +47,6 @@ entries_none s (x ∷ xs) m k =
 home_found : (P : Home → Type 0) (a : ℕ) (xs : List Home) (y : Home) → Each P xs → keyed.find home_act same_act a xs ≡ Some y → P y
 home_found P a xs y e f = subst (InSome P) f (each_found P home_act same_act a xs e)
 
-no_links : (n i : ℕ) → get_or {A = List Parcel} (replicate n []) i [] ≡ []
-no_links zero i = refl
-no_links (suc n) zero = refl
-no_links (suc n) (suc i) = no_links n i
-
 module _ (s : SetupValue) (valid : IsValid s) (a : ℕ) (known : is_home (opened_site s) a ≡ true) where
   abbrev h : Site
   h = opened_site s
@@ -72,7 +68,7 @@ module _ (s : SetupValue) (valid : IsValid s) (a : ℕ) (known : is_home (opened
       ∙ subst (λ n. resident_of n (tile_at y.tile m) ≡ Some (new_stay n)) key (home_found (λ z. resident_of z.act (tile_at z.tile m) ≡ Some (new_stay z.act)) a h.homes y seated.stays home.1)
 
   no_parcel : flat_map (heard_in a) (link_at 0 (tile_of h a) m) ≡ []
-  no_parcel = ap (λ l. flat_map (heard_in a) (get_or l (16 * 0 + tile_of h a) [])) seated.links ∙ ap (flat_map (heard_in a)) (no_links 256 (16 * 0 + tile_of h a))
+  no_parcel = ap (λ l. flat_map (heard_in a) (get_or l (16 * 0 + tile_of h a) [])) seated.links ∙ ap (flat_map (heard_in a)) (get_replicated 256 (16 * 0 + tile_of h a) [])
 
   none_in : (o : Option ActivityEntry) → InSome (λ (x : ActivityEntry). residency_heard x.seating ≡ []) o → entry_heard o ≡ []
   none_in None k = refl

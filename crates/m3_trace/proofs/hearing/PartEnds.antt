@@ -1,5 +1,6 @@
 -- A resident has ended once its program made its end, and no other step of a part ends one.
 use Rattle.std.proofs.Common.{◌≡◌, ℕ, ◌+◌, Bool, true, false, List, [], ◌∷◌, length, Option, Some, None, refl, sym, subst, ◌∙◌, ap, arith}
+use Rattle.std.proofs.Math.Bool.{or-false}
 use Rattle.std.specs.Prelude.{◌==◌, ◌&&◌, ◌||◌, not, is_some, if◌then◌else◌}
 use Rattle.std.proofs.lemmas.Bool.Decides.{nat_tests}
 use Rattle.m3_base.specs.declared.command.Command.{Command}
@@ -37,10 +38,6 @@ abbrev pub ends_by : ℕ → Event → Outcome → Bool
 ends_by a (Event.Turn b) o = if b == a then is_end_made o.made else false
 ends_by a event o = false
 
-pub or_false : (b : Bool) → (b || false) ≡ b
-or_false true = refl
-or_false false = refl
-
 -- ---- a turn
 
 module _ (h : Site) (t : Tile) (b : ℕ) where
@@ -51,7 +48,7 @@ module _ (h : Site) (t : Tile) (b : ℕ) where
     pub others : (a : ℕ) → (b == a) ≡ false → has_ended (resident_of a d.part) ≡ has_ended (resident_of a t)
 
   idle_ends : (why : IdleWhy) → TurnEnds (idle_result why t)
-  idle_ends why = record { ends = sym (or_false (has_ended (resident_of b t))); gone = λ e. refl; others = λ a d. refl }
+  idle_ends why = record { ends = sym (or-false (has_ended (resident_of b t))); gone = λ e. refl; others = λ a d. refl }
 
   abbrev OfSome : Option (LocalResult Tile) → Type 0
   OfSome o = InSome TurnEnds o
@@ -199,7 +196,7 @@ module _ (h : Site) (t : Tile) (a : ℕ) where
   TileEnds e d = (u : Tile) × (d.part ≡ Tile_part u) × (has_ended (resident_of a u) ≡ (has_ended (resident_of a t) || ends_by a e d.outcome))
 
   plain : (e : Event) (d : LocalResult Tile) → ends_by a e d.outcome ≡ false → Stays d → (u : Tile) × (Tile_part d.part ≡ Tile_part u) × (has_ended (resident_of a u) ≡ (has_ended (resident_of a t) || ends_by a e d.outcome))
-  plain e d none k = (d.part, refl, k ∙ sym (or_false (has_ended (resident_of a t))) ∙ ap (λ c. has_ended (resident_of a t) || c) (sym none))
+  plain e d none k = (d.part, refl, k ∙ sym (or-false (has_ended (resident_of a t))) ∙ ap (λ c. has_ended (resident_of a t) || c) (sym none))
 
   turned : (b : ℕ) (o : Option (LocalResult Tile)) → InSome (TurnEnds h t b) o → InSome (TileEnds (Event.Turn b)) (of_turn o)
   turned b None k = tt
@@ -207,7 +204,7 @@ module _ (h : Site) (t : Tile) (a : ℕ) where
     where
       by_act : (c : Bool) → (b == a) ≡ c → has_ended (resident_of a d.part) ≡ (has_ended (resident_of a t) || (if c then is_end_made d.outcome.made else false))
       by_act true e = subst (λ n. has_ended (resident_of n d.part) ≡ (has_ended (resident_of n t) || is_end_made d.outcome.made)) (let z : b ≡ a = grind (arith, nat_tests, e) in z) k.ends
-      by_act false e = k.others a e ∙ sym (or_false (has_ended (resident_of a t)))
+      by_act false e = k.others a e ∙ sym (or-false (has_ended (resident_of a t)))
 
   pub tile_ends : (e : Event) (made : Option Made) (q : Option Parcel) → InSome (TileEnds e) (part_step h (Tile_part t) e made q)
   tile_ends (Event.Take to from) made None = plain (Event.Take to from) (idle_result IdleWhy.EmptyLink t) refl refl

@@ -29,7 +29,7 @@ use Rattle.m3_refine.proofs.arrival.CurrentContext.{current_found}
 use Rattle.m3_refine.proofs.events.HomeTile.{home_in_tiles, home_range}
 use Rattle.m3_refine.proofs.lists.EachElement.{InSome}
 use Rattle.m3_refine.proofs.theorem.StepIsLocalMove.{tile_below}
-use Rattle.m3_trace.specs.Hearing.{heard_away, heard_in, program_input, resident_input}
+use Rattle.m3_trace.specs.Hearing.{heard_away, heard_in, program_input, resident_input, heard_on_link}
 use Rattle.m3_trace.proofs.hearing.OutcomesTell.{heard_said, input_heard}
 use Rattle.m3_trace.proofs.hearing.KernelKeepsAnswers.{KeepsHeard, TellsHeard, heard_at}
 use Rattle.m3_trace.proofs.hearing.KernelTellsAnswers.{kernel_close_keeps, order_keeps, tend_tells}
@@ -45,9 +45,6 @@ module _ (h : Site) (m : Machine) (sound : MachineStructure h m) (a : ℕ) (know
 
   abbrev away : List Heard
   away = heard_away h m a
-
-  abbrev on_link : Machine → List Heard
-  on_link n = flat_map (heard_in a) (link_at 0 (tile_of h a) n)
 
   low : 2 ≤ tile_of h a
   low = (home_range h m a sound known).0
@@ -70,15 +67,15 @@ module _ (h : Site) (m : Machine) (sound : MachineStructure h m) (a : ℕ) (know
   abbrev after : LocalResult Kernel → Machine → Machine
   after d m0 = with_parcels 0 d.out (with_part 0 (Kernel_part d.part) m0)
 
-  module _ (d : LocalResult Kernel) (m0 : Machine) (tiles : m0.tiles ≡ m.tiles) (same : on_link m0 ≡ on_link m) (len : length m0.links ≡ 256) where
+  module _ (d : LocalResult Kernel) (m0 : Machine) (tiles : m0.tiles ≡ m.tiles) (same : heard_on_link h m0 a ≡ heard_on_link h m a) (len : length m0.links ≡ 256) where
     kernel_keeps : KeepsHeard h sound.setup.homes a m.kernel d → program_input h (after d m0) a ≡ program_input h m a
-    kernel_keeps k = after_kernel h m sound a known m0 tiles d same len ∙ ap (λ l. resident_input its (on_link m ++ l)) k
+    kernel_keeps k = after_kernel h m sound a known m0 tiles d same len ∙ ap (λ l. resident_input its (heard_on_link h m a ++ l)) k
 
     pub kernel_tells : TellsHeard h sound.setup.homes a m.kernel d → input_after_answer a (program_input h m a) d.outcome.said ≡ program_input h (after d m0) a
     kernel_tells k =
         input_heard a its away d.outcome.said
-        ∙ ap (resident_input its) (append_assoc (on_link m) (At m.kernel) (heard_said a d.outcome.said))
-        ∙ ap (λ l. resident_input its (on_link m ++ l)) (sym k)
+        ∙ ap (resident_input its) (append_assoc (heard_on_link h m a) (At m.kernel) (heard_said a d.outcome.said))
+        ∙ ap (λ l. resident_input its (heard_on_link h m a ++ l)) (sym k)
         ∙ sym (after_kernel h m sound a known m0 tiles d same len)
 
   pub tend_goes : (b : ℕ) (made : Option Made) (d : MachineResult) → machine_step h m (Event.Tend b) made ≡ Some d → Goes (Event.Tend b) d

@@ -30,7 +30,7 @@ use Rattle.m3_refine.proofs.arrival.CurrentContext.{current_found}
 use Rattle.m3_refine.proofs.events.HomeTile.{home_range}
 use Rattle.m3_refine.proofs.events.take.RouteStep.{itself}
 use Rattle.m3_refine.proofs.lists.EachElement.{InSome}
-use Rattle.m3_trace.specs.Hearing.{entry_heard, heard_away, heard_in, program_input, resident_input}
+use Rattle.m3_trace.specs.Hearing.{entry_heard, heard_away, heard_in, program_input, resident_input, heard_on_link}
 use Rattle.m3_trace.proofs.hearing.OutcomesTell.{heard_said, input_quiet}
 use Rattle.m3_trace.proofs.hearing.KernelKeepsAnswers.{KeepsQuiet, quiet_tells}
 use Rattle.m3_trace.proofs.hearing.LinksBringAnswers.{after_memory, after_tile, none_away, taken_none}
@@ -44,9 +44,6 @@ module _ (h : Site) (m : Machine) (sound : MachineStructure h m) (a : ℕ) (know
   abbrev away : List Heard
   away = heard_away h m a
 
-  abbrev on_link : Machine → List Heard
-  on_link n = flat_map (heard_in a) (link_at 0 (tile_of h a) n)
-
   abbrev kept : List Heard
   kept = entry_heard (entry_of a m.kernel)
 
@@ -55,9 +52,6 @@ module _ (h : Site) (m : Machine) (sound : MachineStructure h m) (a : ℕ) (know
 
   high : tile_of h a < 16
   high = (home_range h m a sound known).1
-
-  abbrev Goes_by : Event → MachineResult → Type 0
-  Goes_by e d = Goes h m sound a known e d
 
   -- ---- a turn
 
@@ -79,7 +73,7 @@ module _ (h : Site) (m : Machine) (sound : MachineStructure h m) (a : ℕ) (know
       let tells = subst (InSome (TurnTells (ideal_of m) (tile_at t m) b [] (turn_ask h (tile_at t m) b))) e (turn_tells h (ideal_of m) (tile_at t m) b [] current made) in
       sym (stays_same h m sound a known t l ht x (λ k. tells.others a (let z : (a == b) ≡ false = grind (arith, nat_tests, d) in z) ∙ ap (λ v. resident_of a (tile_at v m)) (let z : t ≡ tile_of h a = grind (arith, nat_tests, k) in z)))
 
-  turned_goes : (b : ℕ) → 1 ≤ tile_of h b → (made : Option Made) (x : LocalResult Tile) → tile_turn h (tile_at (tile_of h b) m) b made ≡ Some x → Goes_by (Event.Turn b) (record { outcome = x.outcome; machine = turned (tile_of h b) x })
+  turned_goes : (b : ℕ) → 1 ≤ tile_of h b → (made : Option Made) (x : LocalResult Tile) → tile_turn h (tile_at (tile_of h b) m) b made ≡ Some x → Goes h m sound a known (Event.Turn b) (record { outcome = x.outcome; machine = turned (tile_of h b) x })
   turned_goes b l made x e = by_act (b == a) refl
     where
       by_act : (c : Bool) → (b == a) ≡ c → (if c then input_after_turn (ideal_of m) a (program_input h m a) x.outcome.made x.outcome.said else program_input h m a) ≡ program_input h (turned (tile_of h b) x) a
@@ -88,11 +82,11 @@ module _ (h : Site) (m : Machine) (sound : MachineStructure h m) (a : ℕ) (know
           subst (λ n. tile_turn h (tile_at (tile_of h n) m) n made ≡ Some x → input_after_turn (ideal_of m) a (program_input h m a) x.outcome.made x.outcome.said ≡ program_input h (turned (tile_of h n) x) a) k (own_goes made x) e
       by_act false d = other_goes b (tile_of h b) l (below h m sound a known b) d made x e
 
-  some_turn_goes : (b : ℕ) → 1 ≤ tile_of h b → (made : Option Made) (o : Option (LocalResult Tile)) → tile_turn h (tile_at (tile_of h b) m) b made ≡ o → (d : MachineResult) → done_by (tile_of h b) m (of_turn o) ≡ Some d → Goes_by (Event.Turn b) d
+  some_turn_goes : (b : ℕ) → 1 ≤ tile_of h b → (made : Option Made) (o : Option (LocalResult Tile)) → tile_turn h (tile_at (tile_of h b) m) b made ≡ o → (d : MachineResult) → done_by (tile_of h b) m (of_turn o) ≡ Some d → Goes h m sound a known (Event.Turn b) d
   some_turn_goes b l made None e d is = absurd (cc)
   some_turn_goes b l made (Some x) e d is = from_result h m sound a known (Event.Turn b) (record { outcome = x.outcome; machine = turned (tile_of h b) x }) (turned_goes b l made x e) d is
 
-  pub turn_goes : (b : ℕ) (made : Option Made) (d : MachineResult) → machine_step h m (Event.Turn b) made ≡ Some d → Goes_by (Event.Turn b) d
+  pub turn_goes : (b : ℕ) (made : Option Made) (d : MachineResult) → machine_step h m (Event.Turn b) made ≡ Some d → Goes h m sound a known (Event.Turn b) d
   turn_goes b made =
       at_part h m sound a known (Event.Turn b) made (tile_of h b) (below h m sound a known b) (λ d e. absurd (cc)) (λ d e. absurd (cc))
       (λ l. some_turn_goes b l made (tile_turn h (tile_at (tile_of h b) m) b made) refl)
@@ -110,7 +104,7 @@ module _ (h : Site) (m : Machine) (sound : MachineStructure h m) (a : ℕ) (know
     not_home : to ≤ 1 → to ≡ tile_of h a → ⊥
     not_home l e = let k = low in omega (arith, l, e, k)
 
-    same_below : to ≤ 1 → (l : List Parcel) → link_at from to m ≡ l → on_link (left l) ≡ on_link m
+    same_below : to ≤ 1 → (l : List Parcel) → link_at from to m ≡ l → heard_on_link h (left l) a ≡ heard_on_link h m a
     same_below small l g = taken_none h m sound a known from to hf ht l g (λ e d. absurd (not_home small d))
 
     pub kernel_takes : to ≡ 0 → (l : List Parcel) → link_at from to m ≡ l → (d : LocalResult Kernel) → KeepsQuiet h sound.setup.homes a m.kernel d
@@ -124,7 +118,7 @@ module _ (h : Site) (m : Machine) (sound : MachineStructure h m) (a : ℕ) (know
         ∙ sym (after_memory h m sound a known (left l) refl refl d ∙ ap (λ x. resident_input its (x ++ kept)) (same_below (omega (arith, z)) l g))
 
     -- a tile, where the front has nothing for the activity to hear
-    pub tile_takes : 1 ≤ to → (l : List Parcel) → on_link (left l) ≡ on_link m → (d : LocalResult Tile)
+    pub tile_takes : 1 ≤ to → (l : List Parcel) → heard_on_link h (left l) a ≡ heard_on_link h m a → (d : LocalResult Tile)
         → ((to == tile_of h a) ≡ true → input_after_answer a (resident_input (resident_of a (tile_at to m)) away) d.outcome.said ≡ resident_input (resident_of a d.part) away)
         → ((to == tile_of h a) ≡ false → heard_said a d.outcome.said ≡ [])
         → input_after_answer a (program_input h m a) d.outcome.said ≡ program_input h (with_parcels to d.out (with_part to (Tile_part d.part) (left l))) a

@@ -37,6 +37,7 @@ use Rattle.m3_model.specs.Invariant.Housing.{IsPresent}
 use Rattle.m3_model.specs.Invariant.IdealFacts.{IdealFacts}
 use Rattle.m3_model.specs.Invariant.Structure.{CloseWasSent, MachineStructure}
 use Rattle.m3_model.specs.Refinement.{Refines}
+use Rattle.m3_refine.proofs.events.take.RouteStep.{itself}
 use Rattle.m3_refine.proofs.abstraction.ChangeGrants.{regranted, regranted_sound}
 use Rattle.m3_refine.proofs.abstraction.ClosingGrants.{length_closed}
 use Rattle.m3_refine.proofs.abstraction.FindActor.{present-by_act}
@@ -109,15 +110,12 @@ module _ (h : Site) (m : Machine) (sound : MachineStructure h m) (hyp : IdealFac
 
   -- ---- refused
 
-  same_next : (m.kernel.next == m.kernel.next) ≡ true
-  same_next = grind (arith, nat_tests)
-
   grant_refused : (why : No) (f : Option Fresh) → make_refusal h.memory G line ≡ Some why → form (length G + 1) line above ≡ f → Refines h m e made (machine_step h m e made)
   grant_refused why f r k =
       let s = ideal_of m in
       let q = placement_of h m in
       subst (Refines h m e made) (sym (ap (λ o. done_by 0 m (Some (of_kernel (make_with h m.kernel line o (form (length G + 1) line above))))) r))
-      (placed (Some why) f r k ∙ ap (λ b. places_landing.step_outcome (Said.No why) s (if b then record { held = false; places = q } else places_routing.route (kernel_id m.kernel) (places_routing.actor_for (target_of (flight (kernel_id m.kernel) s.flights)) q) q).places) same_next, sound)
+      (placed (Some why) f r k ∙ ap (λ b. places_landing.step_outcome (Said.No why) s (if b then record { held = false; places = q } else places_routing.route (kernel_id m.kernel) (places_routing.actor_for (target_of (flight (kernel_id m.kernel) s.flights)) q) q).places) (itself m.kernel.next), sound)
 
   -- a line without a record is refused
   formless : make_refusal h.memory G line ≡ None → form (length G + 1) line above ≡ None → ⊥

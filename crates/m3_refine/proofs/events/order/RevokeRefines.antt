@@ -26,6 +26,7 @@ use Rattle.m3_model.specs.Machine.{Machine, machine_step, done_by, of_kernel}
 use Rattle.m3_model.specs.Abstraction.{all_closed, is_in, closed_if, closed_from, ideal_of, placement_of}
 use Rattle.m3_model.specs.Invariant.Structure.{CloseWasSent, MachineStructure}
 use Rattle.m3_model.specs.Refinement.{Refines}
+use Rattle.m3_refine.proofs.events.take.RouteStep.{itself}
 use Rattle.m3_refine.proofs.abstraction.ChangeGrants.{regranted_sound}
 use Rattle.m3_refine.proofs.abstraction.ClosedGrants.{numbered}
 use Rattle.m3_refine.proofs.events.take.KernelTakesClosed.{get_closed}
@@ -220,9 +221,6 @@ module _ (h : Site) (m : Machine) (sound : MachineStructure h m) (g : ℕ) (made
   state_next : ideal_of n ≡ record (ideal_of m) { grants = after_revoke (ideal_of m).grants g }
   state_next = (λ k. record (ideal_of m) { grants = revoked_same (all_closed m) G g k })
 
-  same_next : (m.kernel.next == m.kernel.next) ≡ true
-  same_next = grind (arith, nat_tests)
-
   place_by : (o : Option No) → revoke_refusal (grant_in G g) ≡ o
       → placement_step (ideal_of m) (placement_of h m) e made ≡ places_order.order_by (ideal_of m) (places_order.route_new (ideal_of m) (ran_to (on_from (ideal_run []) (revoke_in (ideal_of m) g o)) (ideal_of m)) (placement_of h m)) (on_from (ideal_run []) (revoke_in (ideal_of m) g o))
   place_by o k = ap (λ z. places_order.order_by (ideal_of m) (places_order.route_new (ideal_of m) (ran_to (on_from (ideal_run []) (revoke_in (ideal_of m) g z)) (ideal_of m)) (placement_of h m)) (on_from (ideal_run []) (revoke_in (ideal_of m) g z))) (refusal ∙ k)
@@ -230,12 +228,12 @@ module _ (h : Site) (m : Machine) (sound : MachineStructure h m) (g : ℕ) (made
   revoke_by : (o : Option No) → revoke_refusal (grant_in G g) ≡ o → Refines h m e made (machine_step h m e made)
   revoke_by (Some why) k =
       subst (Refines h m e made) (sym (ap (λ o. done_by 0 m (Some (of_kernel (revoke_with m.kernel g o)))) k))
-      (place_by (Some why) k ∙ ap (λ b. places_landing.step_outcome (Said.No why) (ideal_of m) (if b then record { held = false; places = placement_of h m } else places_routing.route (kernel_id' (ideal_of m)) (places_routing.actor_for (places_routing.target_of (flight (kernel_id' (ideal_of m)) (ideal_of m).flights)) (placement_of h m)) (placement_of h m)).places) same_next, sound)
+      (place_by (Some why) k ∙ ap (λ b. places_landing.step_outcome (Said.No why) (ideal_of m) (if b then record { held = false; places = placement_of h m } else places_routing.route (kernel_id' (ideal_of m)) (places_routing.actor_for (places_routing.target_of (flight (kernel_id' (ideal_of m)) (ideal_of m).flights)) (placement_of h m)) (placement_of h m)).places) (itself m.kernel.next), sound)
   revoke_by None k =
       let next : State = record (ideal_of m) { grants = after_revoke (ideal_of m).grants g } in
       subst (Refines h m e made) (sym (ap (λ o. done_by 0 m (Some (of_kernel (revoke_with m.kernel g o)))) k)) (
         place_by None k
-            ∙ ap (λ b. places_landing.step_outcome (Said.Revoking g) next (if b then record { held = false; places = placement_of h m } else places_routing.route (kernel_id' (ideal_of m)) (places_routing.actor_for (places_routing.target_of (flight (kernel_id' (ideal_of m)) (ideal_of m).flights)) (placement_of h m)) (placement_of h m)).places) same_next
+            ∙ ap (λ b. places_landing.step_outcome (Said.Revoking g) next (if b then record { held = false; places = placement_of h m } else places_routing.route (kernel_id' (ideal_of m)) (places_routing.actor_for (places_routing.target_of (flight (kernel_id' (ideal_of m)) (ideal_of m).flights)) (placement_of h m)) (placement_of h m)).places) (itself m.kernel.next)
             ∙ (λ i. places_landing.step_outcome (Said.Revoking g) (sym state_next i) (placement_of h m)),
         revoke_sound,
       )
