@@ -7,6 +7,7 @@ pub mod IssueHears
 pub mod OpenedParts
 pub mod OpensInBounds
 pub mod PartStep
+pub mod PartsAtSite
 pub mod ShortFront
 pub mod StayHears
 pub mod StayPlace

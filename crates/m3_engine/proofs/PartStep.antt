@@ -41,7 +41,7 @@ use Rattle.m3_kernel.specs.declared.order.OrderRefusal.{OrderRefusal}
 use Rattle.m3_engine.specs.declared.tile.TileDid.{TileDid}
 use Rattle.m3_engine.specs.TileStepView.{Does}
 use Rattle.m3_base.specs.ExtentFiles.ScriptEntries.{plain_outcome as plain}
-use Rattle.m3_engine.specs.TileView.{CanIssue}
+use Rattle.m3_engine.specs.TileView.{TileAt, CanIssue, tiles_of}
 use Rattle.m3_engine.specs.TurnView.{CanTurn, IsShort, TurnDoes}
 use Rattle.m3_engine.specs.PartsView.{Parts, linked, part_of, IsNoTake, DoesAt}
 use Rattle.m3_engine.specs.EngineView.{Makes, out_links}
@@ -140,14 +140,19 @@ memory_at old now t did deed step is does = record {
   site = refl;
 }
 
-pub tile_at : (old : Parts) (at : ℕ) (now : Tile) (t : ℕ) (did : TileDid) (deed : LocalResult Tile) (step : Option (LocalResult machine.Part)) → at ≡ t → step ≡ Some (machine.of_tile deed) → Does did now deed
-    → DoesAt t old (record { site = old.site; kernel = old.kernel; memory = old.memory; tiles = set old.tiles at now }) (single did) step
-tile_at old at now t did deed step here is does = record {
+-- a machine's parts with these tiles
+abbrev pub with_tiles : Parts → List TileAt → Parts
+with_tiles p ts = record { site = p.site; kernel = p.kernel; memory = p.memory; tiles = tiles_of ts }
+
+pub tile_at : (p : Parts) (ts : List TileAt) (at : ℕ) (now : TileAt) (t : ℕ) (did : TileDid) (deed : LocalResult Tile) (step : Option (LocalResult machine.Part)) → at ≡ t → step ≡ Some (machine.of_tile deed) → Does did now.tile deed
+    → DoesAt t (with_tiles p ts) (with_tiles p (set ts at now)) (single did) step
+tile_at p ts at now t did deed step here is does = record {
   deed = machine.of_tile deed;
   is = is;
   outcome = does.outcome;
   out = nothing_more (out_of did.emit) ∙ does.out;
-  parts = λ links. (λ i. linked links (record old { tiles = set old.tiles (sym here i) (sym does.part i) }));
+  parts = λ links. ap (λ us. linked links (record p { tiles = us }))
+      ((λ i. set (tiles_of ts) (sym here i) (sym does.part i)) ∙ sym (map-set (λ (x : TileAt). x.tile) ts at now));
   site = refl;
 }
 
@@ -347,10 +352,10 @@ order_kept old now o answer (Err e) site tells orders = (λ i. record { site = s
 -- ---- turns
 
 -- a tile made a turn
-pub turn_at : (old : Parts) (at : ℕ) (now : Tile) (t : ℕ) (did : TileDid) (turn : Option (LocalResult Tile)) (step : Option (LocalResult machine.Part)) → at ≡ t → step ≡ machine.of_turn turn → TurnDoes did now turn
-    → DoesAt t old (record { site = old.site; kernel = old.kernel; memory = old.memory; tiles = set old.tiles at now }) (single did) step
-turn_at old at now t did None step here is does = absurd does
-turn_at old at now t did (Some d) step here is does = tile_at old at now t did d step here is does
+pub turn_at : (p : Parts) (ts : List TileAt) (at : ℕ) (now : TileAt) (t : ℕ) (did : TileDid) (turn : Option (LocalResult Tile)) (step : Option (LocalResult machine.Part)) → at ≡ t → step ≡ machine.of_turn turn → TurnDoes did now.tile turn
+    → DoesAt t (with_tiles p ts) (with_tiles p (set ts at now)) (single did) step
+turn_at p ts at now t did None step here is does = absurd does
+turn_at p ts at now t did (Some d) step here is does = tile_at p ts at now t did d step here is does
 
 -- low numbers and short stays leave room for a move
 pub can_turn : (n : ℕ) (m : machine.Machine) (t a : ℕ) (made : Option Made) → n ≤ 2097152 → CountersBounded n m → StaysAreShort n m → IsShort made → CanTurn (machine.tile_at t m) a made

@@ -23,13 +23,16 @@ use Rattle.m3_model.specs.Tile.State.{Resident, Tile}
 use Rattle.m3_model.specs.Tile.Step.{new_out, heard_by, act_in, take_arrived, arrive_named, take_here, bounced, take_data, is_waiting_resident, has_ended, take_save, resident_after_answers, resident_at_restore, after_restore, may_return, take_restore, resident_of}
 use Rattle.m3_engine.specs.StayView.{HearsOf, stay_in, stays_after_answers, replaced_if, with_stay}
 use Rattle.m3_engine.specs.TileStepView.{Lands, Does}
-use Rattle.m3_engine.specs.TileView.{runs, accepts, TileHears}
+use Rattle.m3_engine.specs.TileView.{TileAt, runs, accepts, TileHears}
 use Rattle.m3_engine.specs.declared.tile.TileDid.{TileDid}
 use Rattle.m3_refine.proofs.arrival.ArriveKeeps.{KeptBy, arrive_keeps}
 
 -- the tile of these stays, with this current context
 abbrev tile_with : ℕ → List Resident → Option Context → Tile
 tile_with t ys c = record { tile = t; current = c; stays = ys }
+
+abbrev at_site : Site → Tile → TileAt
+at_site h t = record { site = h; tile = t }
 
 -- ---- data
 
@@ -89,16 +92,16 @@ module _ (h : Site) (t : ℕ) (ys : List Resident) (x : Context) (p : Packet) (d
       }
       )
 
-pub takes_data : (h : Site) (old : Tile) (t : ℕ) (ys : List Resident) (o : Option Context) (x new : Context) (p : Packet) (d : TileDid) (heard : Option CodeHeard) (after : List Resident)
-    → tile_with t ys o ≡ old → o ≡ Some x → is_here (target p) (act_in old.current) ≡ true → accepts h p old.current ≡ true → TileHears p old heard
-    → Lands h d x new p → after ≡ stays_after_answers (heard_in heard) new.act ys → Does d (tile_with t after (Some new)) (take_data h old p)
+pub takes_data : (h : Site) (old : TileAt) (t : ℕ) (ys : List Resident) (o : Option Context) (x new : Context) (p : Packet) (d : TileDid) (heard : Option CodeHeard) (after : List Resident)
+    → at_site h (tile_with t ys o) ≡ old → o ≡ Some x → is_here (target p) (act_in old.tile.current) ≡ true → accepts old.site p old.tile.current ≡ true → TileHears p old.tile heard
+    → Lands h d x new p → after ≡ stays_after_answers (heard_in heard) new.act ys → Does d (tile_with t after (Some new)) (take_data old.site old.tile p)
 takes_data h old t ys o x new p d heard after is some here accepted hears lands now =
-    let whole : tile_with t ys (Some x) ≡ old = ap (tile_with t ys) (sym some) ∙ is in
-    let current : old.current ≡ Some x = ap (λ (y : Tile). y.current) (sym whole) in
-    let fit = is_accepted h p old.current x accepted current in
-    subst (λ (y : Tile). Does d (tile_with t after (Some new)) (take_data h y p)) whole (
+    let whole : at_site h (tile_with t ys (Some x)) ≡ old = ap (λ c. at_site h (tile_with t ys c)) (sym some) ∙ is in
+    let current : old.tile.current ≡ Some x = ap (λ (y : TileAt). y.tile.current) (sym whole) in
+    let fit = is_accepted h p old.tile.current x (ap (λ (y : TileAt). accepts y.site p old.tile.current) whole ∙ accepted) current in
+    subst (λ (y : TileAt). Does d (tile_with t after (Some new)) (take_data y.site y.tile p)) whole (
     takes_there h t ys x p d heard new after fit.0 fit.1 (sym (ap (λ c. is_here (target p) (act_in c)) current) ∙ here)
-    (λ y e. hears x y current (ap (λ (z : Tile). resident_of x.act z) (sym whole) ∙ e)) lands now
+    (λ y e. hears x y current (ap (λ (z : TileAt). resident_of x.act z.tile) (sym whole) ∙ e)) lands now
     )
 
 -- a packet that doesn't fit is dropped
@@ -116,13 +119,13 @@ drops_data h t p here refused = ap (λ b. if b then take_here h t p t.current el
 
 -- ---- a Save
 
-pub saves : (old : Tile) (t a : ℕ) (ys : List Resident) (o : Option Context) (x : Context) (d : TileDid) → tile_with t ys o ≡ old → o ≡ Some x → runs a old.current ≡ true
+pub saves : (h : Site) (old : TileAt) (t a : ℕ) (ys : List Resident) (o : Option Context) (x : Context) (d : TileDid) → at_site h (tile_with t ys o) ≡ old → o ≡ Some x → runs a old.tile.current ≡ true
     → d.outcome ≡ plain (Said.Saving a) → out_of d.emit ≡ (0, Saved a x (is_waiting_resident x (stay_in a ys)) (has_ended (stay_in a ys))) ∷ []
-    → Does d (tile_with t ys None) (take_save old a old.current)
-saves old t a ys o x d is some here said sent =
-    let whole : tile_with t ys (Some x) ≡ old = ap (tile_with t ys) (sym some) ∙ is in
-    subst (λ (y : Tile). Does d (tile_with t ys None) (take_save y a y.current)) whole (
-    saves_there (subst (λ (y : Tile). runs a y.current ≡ true) (sym whole) here)
+    → Does d (tile_with t ys None) (take_save old.tile a old.tile.current)
+saves h old t a ys o x d is some here said sent =
+    let whole : at_site h (tile_with t ys (Some x)) ≡ old = ap (λ c. at_site h (tile_with t ys c)) (sym some) ∙ is in
+    subst (λ (y : TileAt). Does d (tile_with t ys None) (take_save y.tile a y.tile.current)) whole (
+    saves_there (subst (λ (y : TileAt). runs a y.tile.current ≡ true) (sym whole) here)
     )
   where
     saves_there : (x.act == a) ≡ true → Does d (tile_with t ys None) (take_save (tile_with t ys (Some x)) a (Some x))
@@ -134,17 +137,17 @@ saves old t a ys o x d is some here said sent =
 
 -- ---- a Restore
 
-module _ (h : Site) (old : Tile) (t a : ℕ) (ys : List Resident) (o : Option Context) (x : Context) (xs : List Heard) (d : TileDid) (is : tile_with t ys o ≡ old) (none : is_some o ≡ false) (fit : may_return h a x ≡ true) where
+module _ (h : Site) (old : TileAt) (t a : ℕ) (ys : List Resident) (o : Option Context) (x : Context) (xs : List Heard) (d : TileDid) (is : at_site h (tile_with t ys o) ≡ old) (none : is_some o ≡ false) (fit : may_return h a x ≡ true) where
   no_current : (c : Option Context) → is_some c ≡ false → c ≡ None
   no_current None e = refl
   no_current (Some c) e = absurd (cc)
 
-  whole : tile_with t ys None ≡ old
-  whole = ap (tile_with t ys) (sym (no_current o none)) ∙ is
+  whole : at_site h (tile_with t ys None) ≡ old
+  whole = ap (λ c. at_site h (tile_with t ys c)) (sym (no_current o none)) ∙ is
 
-  restore_step : take_restore h old a x xs old.current ≡ after_restore (tile_with t ys None) x xs (stay_in x.act ys)
+  restore_step : take_restore old.site old.tile a x xs old.tile.current ≡ after_restore (tile_with t ys None) x xs (stay_in x.act ys)
   restore_step =
-      ap (λ (y : Tile). take_restore h y a x xs y.current) (sym whole)
+      ap (λ (y : TileAt). take_restore y.site y.tile a x xs y.tile.current) (sym whole)
       ∙ ap (λ b. if b then after_restore (tile_with t ys None) x xs (stay_in x.act ys) else dropped_result (tile_with t ys None)) fit
 
   by_stay : (o : Option Resident) (after : List Resident) → is_some o ≡ true → after ≡ replaced_if (resident_at_restore xs) o ys → d.outcome ≡ plain (Said.Current x.act) → out_of d.emit ≡ []
@@ -153,7 +156,7 @@ module _ (h : Site) (old : Tile) (t a : ℕ) (ys : List Resident) (o : Option Co
   by_stay (Some y) after there now said sent = record { outcome = said; part = ap (λ zs. tile_with t zs (Some x)) now; out = sent }
 
   pub restores : (after : List Resident) → is_some (stay_in x.act ys) ≡ true → after ≡ replaced_if (resident_at_restore xs) (stay_in x.act ys) ys
-      → d.outcome ≡ plain (Said.Current x.act) → out_of d.emit ≡ [] → Does d (tile_with t after (Some x)) (take_restore h old a x xs old.current)
+      → d.outcome ≡ plain (Said.Current x.act) → out_of d.emit ≡ [] → Does d (tile_with t after (Some x)) (take_restore old.site old.tile a x xs old.tile.current)
   restores after there now said sent =
       subst (Does d (tile_with t after (Some x))) (sym restore_step) (by_stay (stay_in x.act ys) after there now said sent)
 
@@ -162,9 +165,19 @@ module _ (h : Site) (old : Tile) (t a : ℕ) (ys : List Resident) (o : Option Co
   no_stay (Some y) there = absurd (cc)
 
   pub restores_none : (after : List Resident) → is_some (stay_in x.act ys) ≡ false → after ≡ replaced_if (resident_at_restore xs) (stay_in x.act ys) ys
-      → d.outcome ≡ plain (Said.Idle IdleWhy.EmptyLink) → out_of d.emit ≡ [] → Does d (tile_with t after o) (take_restore h old a x xs old.current)
+      → d.outcome ≡ plain (Said.Idle IdleWhy.EmptyLink) → out_of d.emit ≡ [] → Does d (tile_with t after o) (take_restore old.site old.tile a x xs old.tile.current)
   restores_none after there now said sent =
       let w = no_stay (stay_in x.act ys) there in
       subst (Does d (tile_with t after o)) (sym (restore_step ∙ w.0)) (
       record { outcome = said; part = λ i. tile_with t ((now ∙ w.1) i) (no_current o none i); out = sent }
       )
+
+-- no Restore where somebody is
+pub restores_nobody : (h : Site) (t : Tile) (a : ℕ) (x : Context) (xs : List Heard) (o : Option Context) → is_some o ≡ true → take_restore h t a x xs o ≡ dropped_result t
+restores_nobody h t a x xs (Some y) there = refl
+restores_nobody h t a x xs None there = absurd (cc)
+
+-- nor of a context that may not return
+pub restores_unfit : (h : Site) (t : Tile) (a : ℕ) (x : Context) (xs : List Heard) (o : Option Context) → may_return h a x ≡ false → take_restore h t a x xs o ≡ dropped_result t
+restores_unfit h t a x xs (Some y) unfit = refl
+restores_unfit h t a x xs None unfit = ap (λ b. if b then after_restore t x xs (resident_of x.act t) else dropped_result t) unfit

@@ -1,5 +1,5 @@
 -- An engine as contracts see it, and what one event of it is.
-use Rattle.std.specs.Prelude.{◌≡◌, ℕ, ◌+◌, ◌*◌, ◌≤◌, true, List, [], ◌∷◌, ◌++◌, length, map, slice_index_or, slice_set, Some}
+use Rattle.std.specs.Prelude.{◌≡◌, ℕ, ◌+◌, ◌*◌, ◌≤◌, true, List, [], ◌∷◌, ◌++◌, map, slice_index_or, slice_set, Some}
 use Rattle.m3_base.specs.declared.event.Event.{Event}
 use Rattle.m3_base.specs.declared.event.Outcome.{Outcome}
 use Rattle.m3_base.specs.Setup.Rules.{SetupValue}
@@ -15,7 +15,7 @@ use Rattle.m3_model.specs.Invariant.Housing.{IsPresent, IsSetup, resident_at}
 use Rattle.m3_kernel.specs.ParcelView.{parcels_of}
 use Rattle.m3_model.specs.SetupOpening.{opened_by_setup, opened_site}
 use Rattle.m3_engine.specs.declared.engine.Engine.TheInside.{Inside}
-use Rattle.m3_engine.specs.PartsView.{parts_of, linked}
+use Rattle.m3_engine.specs.PartsView.{HasParts, parts_of, linked}
 
 pub record EngineAt : Type 0 where
   pub site : Site
@@ -26,7 +26,7 @@ engine_at e = record { site = e.parts.kernel.site; machine = linked (parcels_of 
 
 pub record IsEngine (e : Inside) : Type 0 where
   pub setup : IsSetup e.parts.kernel.site
-  pub tiles : length e.parts.tiles.items ≡ 16
+  pub parts : HasParts e.parts
 
 abbrev pub opened_engine : SetupValue → EngineAt
 opened_engine s = record { site = opened_site s; machine = opened_by_setup s }

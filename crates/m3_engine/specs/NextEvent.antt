@@ -10,6 +10,7 @@ use Rattle.m3_model.specs.Kernel.Driver.{least_tend, next_switch}
 use Rattle.m3_model.specs.Tile.State.{Tile}
 use Rattle.m3_model.specs.Machine.{empty_tile}
 use Rattle.m3_trace.specs.DriverOfMachine.{turn_at}
+use Rattle.m3_engine.specs.TileView.{tiles_of}
 use Rattle.m3_engine.specs.declared.parts.Parts.{Parts}
 
 -- the turn of the tile's current activity, where it isn't idle
@@ -33,4 +34,4 @@ next_of_kernel h k left =
 -- a take, then what the kernel makes, then a turn
 abbrev pub next_of_parts : Option Event → Parts → List Order → Option Event
 next_of_parts take p left =
-    first_some (take ∷ next_of_kernel p.kernel.site p.kernel.kernel left ∷ first_turn p.kernel.site p.tiles.items ∷ [])
+    first_some (take ∷ next_of_kernel p.kernel.site p.kernel.kernel left ∷ first_turn p.kernel.site (tiles_of p.tiles.items) ∷ [])

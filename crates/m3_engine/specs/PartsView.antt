@@ -17,6 +17,7 @@ use Rattle.m3_model.specs.StayMoves.{StaysAreShort}
 use Rattle.m3_model.specs.Machine.{Machine, Part, part_at, tile_at, with_part}
 use Rattle.m3_kernel.specs.ParcelView.{out_of}
 use Rattle.m3_kernel.specs.declared.done.Done.{Done}
+use Rattle.m3_engine.specs.TileView.{AreAtSite, tiles_of}
 use Rattle.m3_engine.specs.declared.parts.Parts.{Parts as CodeParts}
 
 pub record Parts : Type 0 where
@@ -26,11 +27,13 @@ pub record Parts : Type 0 where
   pub tiles : List Tile
 
 abbrev pub parts_of : CodeParts → Parts
-parts_of p = record { site = p.kernel.site; kernel = p.kernel.kernel; memory = p.memory; tiles = p.tiles.items }
+parts_of p = record { site = p.kernel.site; kernel = p.kernel.kernel; memory = p.memory.memory; tiles = tiles_of p.tiles.items }
 
--- there is a part for each of the 16 tiles
-abbrev pub HasTiles : CodeParts → Type 0
-HasTiles p = length p.tiles.items ≡ 16
+-- there is a part for each of the 16 tiles, and each part's site is the kernel's
+pub record HasParts (p : CodeParts) : Type 0 where
+  pub count : length p.tiles.items ≡ 16
+  pub memory : p.memory.site ≡ p.kernel.site
+  pub tiles : AreAtSite p.kernel.site p.tiles.items
 
 -- a machine of these parts and these links
 abbrev pub linked : List (List Parcel) → Parts → Machine

@@ -1,9 +1,10 @@
 -- What a tile is to a reader, when it may issue a command, and what its program hears.
-use Rattle.std.specs.Prelude.{◌≡◌, ℕ, ◌<◌, Bool, false, ◌==◌, ◌&&◌, [], ◌∷◌, ◌++◌, Option, Some, None}
+use Rattle.std.specs.Prelude.{◌≡◌, ℕ, ◌<◌, Bool, false, ◌==◌, ◌&&◌, List, [], ◌∷◌, ◌++◌, map, Option, Some, None}
 use Rattle.m3_base.specs.declared.command.Command.{Command}
 use Rattle.m3_base.specs.declared.packet.Packet.{Packet}
 use Rattle.m3_base.specs.Ideal.Acceptance.{fits}
 use Rattle.m3_base.specs.Ideal.Context.{Context}
+use Rattle.m3_base.specs.Lists.EachElement.{Each}
 use Rattle.m3_core.specs.Preconditions.{HasTokenFor}
 use Rattle.m3_core.specs.declared.parcel.Heard.{Heard}
 use Rattle.m3_engine.specs.StayView.{HearsOf}
@@ -14,8 +15,20 @@ use Rattle.m3_model.specs.Tile.State.{Resident, Tile}
 use Rattle.m3_model.specs.Tile.Step.{resident_of}
 use Rattle.m3_model.specs.Machine.{new_stay}
 
-abbrev pub tile_value : Inside → Tile
-tile_value t = record { tile = t.tile; current = t.current; stays = t.stays }
+-- a tile and the site that it works at
+pub record TileAt : Type 0 where
+  pub site : Site
+  pub tile : Tile
+
+abbrev pub tile_value : Inside → TileAt
+tile_value t = record { site = t.site; tile = record { tile = t.tile; current = t.current; stays = t.stays } }
+
+abbrev pub tiles_of : List TileAt → List Tile
+tiles_of ts = map (λ (t : TileAt). t.tile) ts
+
+-- each tile works at this site
+abbrev pub AreAtSite : Site → List TileAt → Type 0
+AreAtSite h ts = Each (λ (t : TileAt). t.site ≡ h) ts
 
 -- the numbers of the next flight and of the next token are below the largest
 abbrev pub CanIssue : Option Context → Command → Type 0

@@ -16,6 +16,7 @@ ghost use Rattle.m3_base.specs.declared.program.Seen.{Seen};
 ghost use Rattle.m3_model.specs.Config.Site.{has_program};
 ghost use Rattle.m3_engine.specs.ProgramTurn.{IsAsked, IsHeard, ask_of};
 ghost use Rattle.m3_engine.specs.EngineView.{Makes, CanMake, out_links, opened_engine};
+ghost use Rattle.m3_engine.specs.TileView.{tiles_of};
 
 use crate::memory::MemPart;
 use crate::next::next_event;
@@ -108,7 +109,8 @@ impl Engine {
         let mut table = initial_contexts(alloc, setup)?;
         let kernel = Kernel::new(alloc, setup, &mut table)?;
         let tiles = tiles(alloc, setup, &kernel, &mut table)?;
-        let memory = MemPart::new(alloc, setup.memory())?;
+        let site = kernel.site().share()?;
+        let memory = MemPart::new(alloc, site, setup.memory())?;
         let wires = Wires::new(alloc)?;
         let parts = Parts {
             kernel,
@@ -216,7 +218,7 @@ impl Engine {
 
     /// The tiles, by number.
     pub fn tiles(&self) -> &[TilePart]
-        ensures tiles { result.now ≡ self.now.machine.tiles }
+        ensures tiles { tiles_of result.now ≡ self.now.machine.tiles }
         ensures count { length result.now ≡ 16 }
     {
         self.parts.tiles.as_slice()

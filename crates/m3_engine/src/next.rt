@@ -3,8 +3,10 @@
 ghost use Rattle.std.specs.Prelude.{◌≡◌, length};
 ghost use Rattle.m3_trace.specs.DriverOfMachine.{next_take_on};
 ghost use Rattle.m3_model.specs.Kernel.Driver.{next_switch};
+ghost use Rattle.m3_model.specs.Config.Site.{Site};
 ghost use Rattle.m3_engine.specs.NextEvent.{first_turn, next_of_kernel, next_of_parts};
-ghost use Rattle.m3_engine.specs.PartsView.{HasTiles};
+ghost use Rattle.m3_engine.specs.PartsView.{HasParts};
+ghost use Rattle.m3_engine.specs.TileView.{AreAtSite, tiles_of};
 
 use crate::parts::Parts;
 use crate::tile::TilePart;
@@ -12,7 +14,6 @@ use m3_base::event::Event;
 use m3_base::ids::TileId;
 use m3_base::order::Order;
 use m3_kernel::kernel::Kernel;
-use m3_kernel::site::Site;
 use m3_link::wires::Wires;
 
 /// The take at the least receiving tile, then from the least sending tile, among links that aren't empty.
@@ -26,12 +27,12 @@ fn next_take(wires: &Wires) -> Option<Event>
 }
 
 /// The turn of the least tile's current activity that isn't idle.
-fn next_turn(site: &Site, tiles: &[TilePart]) -> Option<Event>
+fn next_turn(tiles: &[TilePart]) -> Option<Event>
     requires { length tiles.now ≡ 16 }
-    ensures { result ≡ first_turn site.now tiles.now }
+    ensures { (h : Site) → AreAtSite h tiles.now → result ≡ first_turn h (tiles_of tiles.now) }
 {
     for tile in 0..16u8 {
-        if let Some(event) = tiles[usize::from(tile)].next_turn(site) {
+        if let Some(event) = tiles[usize::from(tile)].next_turn() {
             return Some(event);
         }
     }
@@ -67,14 +68,14 @@ fn next_of_kernel(kernel: &Kernel, left: &[Order]) -> Option<Event>
 
 /// A take, where a link isn't empty; then what the kernel makes next; then a turn.
 pub fn next_event(wires: &Wires, parts: &Parts, left: &[Order]) -> Option<Event>
-    requires { HasTiles parts.now }
+    requires { HasParts parts.now }
     ensures { result ≡ next_of_parts (next_take_on wires.now.lists) parts.now left.now }
 {
     match next_take(wires) {
         Some(take) => Some(take),
         None => match next_of_kernel(&parts.kernel, left) {
             Some(event) => Some(event),
-            None => next_turn(parts.kernel.site(), parts.tiles.as_slice()),
+            None => next_turn(parts.tiles.as_slice()),
         },
     }
 }

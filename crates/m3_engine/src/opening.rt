@@ -11,6 +11,7 @@ ghost use Rattle.m3_model.specs.NumberBounds.{HasBoundedCounters};
 ghost use Rattle.m3_model.specs.Machine.{empty_tiles};
 ghost use Rattle.m3_model.specs.SetupOpening.{opened_by_setup};
 ghost use Rattle.m3_engine.specs.OpenedParts.{HasTileContexts};
+ghost use Rattle.m3_engine.specs.TileView.{AreAtSite, tiles_of};
 
 use crate::tile::TilePart;
 use m3_base::ids::{ActId, EpId, GrantId, TileId};
@@ -20,6 +21,7 @@ use m3_base::setup::Setup;
 use m3_base::setup_line::SetupLine;
 use m3_core::context::Context;
 use m3_kernel::kernel::Kernel;
+use m3_kernel::site::Site;
 use std::alloc::{AllocError, Global};
 
 fn no_contexts(alloc: Global) -> Result<Vec<Option<Context>>, AllocError>
@@ -113,13 +115,15 @@ pub fn initial_contexts(alloc: Global, setup: &Setup) -> Result<Vec<Option<Conte
     Ok(table)
 }
 
-fn no_tiles(alloc: Global) -> Result<Vec<TilePart>, AllocError>
-    ensures tiles { IfOk result (λ v. v.items ≡ empty_tiles) }
+fn no_tiles(alloc: Global, site: &Site) -> Result<Vec<TilePart>, AllocError>
+    ensures tiles { IfOk result (λ v. tiles_of v.items ≡ empty_tiles) }
     ensures count { IfOk result (λ v. length v.items ≡ 16) }
+    ensures site { IfOk result (λ v. AreAtSite site.now v.items) }
 {
     let mut tiles = Vec::new(alloc);
     for number in 0..16u8 {
-        let tile = TilePart::new(alloc, TileId::new(number))?;
+        let own = site.share()?;
+        let tile = TilePart::new(alloc, own, TileId::new(number))?;
         tiles.push(tile)?;
     }
     Ok(tiles)
@@ -133,11 +137,13 @@ pub fn tiles(
     table: &mut Vec<Option<Context>>,
 ) -> Result<Vec<TilePart>, AllocError>
     requires { HasTileContexts setup.now kernel.now table.old.items }
-    ensures tiles { IfOk result (λ v. v.items ≡ (opened_by_setup setup.now).tiles) }
+    ensures tiles { IfOk result (λ v. tiles_of v.items ≡ (opened_by_setup setup.now).tiles) }
     ensures count { IfOk result (λ v. length v.items ≡ 16) }
+    ensures site { IfOk result (λ v. AreAtSite kernel.now.site v.items) }
 {
-    let mut tiles = no_tiles(alloc)?;
-    for home in kernel.site().homes() {
+    let site = kernel.site();
+    let mut tiles = no_tiles(alloc, site)?;
+    for home in site.homes() {
         let context = table[usize::from(home.act().number())].take();
         tiles[usize::from(home.tile().number())].seat(home.act(), context)?;
     }

@@ -9,7 +9,7 @@ ghost use Rattle.m3_model.specs.Machine.{part_step, tile_for_event};
 ghost use Rattle.m3_model.specs.Config.KnownActivities.{is_home};
 ghost use Rattle.m3_model.specs.Invariant.Housing.{IsSetup};
 ghost use Rattle.m3_model.specs.Tile.Ask.{answers_ask};
-ghost use Rattle.m3_engine.specs.PartsView.{parts_of, part_of, ask_in, stay_at_home, HasTiles, IsAble, IsNoTake, DoesAt};
+ghost use Rattle.m3_engine.specs.PartsView.{parts_of, part_of, ask_in, stay_at_home, HasParts, IsAble, IsNoTake, DoesAt};
 ghost use Rattle.m3_engine.specs.SparesView.{AreFull};
 ghost use Rattle.m3_engine.specs.TurnView.{IsShort, ask_kind, shown_to};
 
@@ -27,7 +27,8 @@ use m3_kernel::done::{Done, done_by_close, done_by_order};
 use m3_kernel::kernel::Kernel;
 use std::alloc::{AllocError, Global};
 
-/// The kernel, the memory and the tiles, by number; those of the kernel and of the memory have nobody.
+/// The kernel, the memory and the tiles, by number; those of the kernel and of the memory have nobody. Each has the site
+/// for its own.
 #[derive(Drop)]
 pub struct Parts {
     pub kernel: Kernel,
@@ -69,8 +70,8 @@ impl Parts {
         to: TileId,
         parcel: Parcel,
     ) -> Result<Done, (Parcel, AllocError)>
-        requires { HasTiles self.old }
-        ensures tiles { HasTiles self.new }
+        requires { HasParts self.old }
+        ensures parts { HasParts self.new }
         ensures ok { IfOk result (λ d. (from : ℕ) → DoesAt to (parts_of self.old)
             (parts_of self.new) d (part_step self.old.kernel.site (part_of to (parts_of self.old))
             (Event.Take to from) None (Some (parcel_of parcel)))) }
@@ -82,9 +83,9 @@ impl Parts {
             return self.kernel.take(parcel);
         }
         if at == 1 {
-            return Ok(done_by(self.memory.take(self.kernel.site(), parcel)));
+            return Ok(done_by(self.memory.take(parcel)));
         }
-        match self.tiles[at].take(alloc, self.kernel.site(), parcel) {
+        match self.tiles[at].take(alloc, parcel) {
             Ok(did) => Ok(done_by(did)),
             Err(back) => Err(back),
         }
@@ -92,18 +93,18 @@ impl Parts {
 
     /// What the next turn of an activity asks for.
     pub fn ask(&self, act: ActId) -> Ask
-        requires tiles { HasTiles self.now }
+        requires parts { HasParts self.now }
         requires setup { IsSetup self.now.kernel.site }
         requires declared { is_home self.now.kernel.site act ≡ true }
         ensures { result ≡ ask_kind (ask_in (parts_of self.now) act) }
     {
         let tile = self.kernel.site().tile_of(act.number());
-        self.tiles[usize::from(tile.number())].ask(self.kernel.site(), act)
+        self.tiles[usize::from(tile.number())].ask(act)
     }
 
     /// What an activity's program sees at its next move. None where it waits for an answer.
     pub fn seen(&self, act: ActId) -> Option<&Seen>
-        requires tiles { HasTiles self.now }
+        requires parts { HasParts self.now }
         requires setup { IsSetup self.now.kernel.site }
         requires declared { is_home self.now.kernel.site act ≡ true }
         ensures { option_copied result ≡ shown_to (stay_at_home (parts_of self.now) act) }
@@ -120,14 +121,14 @@ impl Parts {
         act: ActId,
         made: Option<Made>,
     ) -> Done
-        requires tiles { HasTiles self.old }
+        requires parts { HasParts self.old }
         requires setup { IsSetup self.old.kernel.site }
         requires able { IsAble (parts_of self.old) }
         requires declared { is_home self.old.kernel.site act ≡ true }
         requires answers { answers_ask (ask_in (parts_of self.old) act) made ≡ true }
         requires short { IsShort made }
         requires full { AreFull spares.old }
-        ensures tiles { HasTiles self.new }
+        ensures parts { HasParts self.new }
         ensures made { result.outcome.made ≡ made }
         ensures does { DoesAt (tile_for_event self.old.kernel.site (Event.Turn act)) (parts_of self.old)
             (parts_of self.new) result (part_step self.old.kernel.site
@@ -136,17 +137,17 @@ impl Parts {
     {
         let tile = self.kernel.site().tile_of(act.number());
         let at = usize::from(tile.number());
-        let did = self.tiles[at].turn(alloc, self.kernel.site(), spares, act, made);
+        let did = self.tiles[at].turn(alloc, spares, act, made);
         done_by(did)
     }
 
     /// The activity's tile makes its command.
     fn command(&mut self, alloc: Global, act: ActId, command: Command) -> Result<Done, AllocError>
-        requires tiles { HasTiles self.old }
+        requires parts { HasParts self.old }
         requires setup { IsSetup self.old.kernel.site }
         requires able { IsAble (parts_of self.old) }
         requires declared { is_home self.old.kernel.site act ≡ true }
-        ensures tiles { HasTiles self.new }
+        ensures parts { HasParts self.new }
         ensures ok { IfOk result (λ d. DoesAt
             (tile_for_event self.old.kernel.site (Event.Do act command)) (parts_of self.old)
             (parts_of self.new) d (part_step self.old.kernel.site
@@ -156,16 +157,16 @@ impl Parts {
     {
         let tile = self.kernel.site().tile_of(act.number());
         let at = usize::from(tile.number());
-        let did = self.tiles[at].command(alloc, self.kernel.site(), act, command)?;
+        let did = self.tiles[at].command(alloc, act, command)?;
         Ok(done_by(did))
     }
 
     /// The kernel carries out an order.
     fn order(&mut self, order: Order) -> Result<Done, AllocError>
-        requires tiles { HasTiles self.old }
+        requires parts { HasParts self.old }
         requires seated { HolderIsSeated self.old.kernel.kernel order }
         requires number { HasNumber self.old.kernel.kernel }
-        ensures tiles { HasTiles self.new }
+        ensures parts { HasParts self.new }
         ensures ok { IfOk result (λ d. DoesAt 0 (parts_of self.old) (parts_of self.new) d
             (part_step self.old.kernel.site (part_of 0 (parts_of self.old)) (Event.Order order) None
             None)) }
@@ -177,9 +178,9 @@ impl Parts {
 
     /// The kernel sends the Close that is due.
     fn close(&mut self) -> Result<Done, AllocError>
-        requires tiles { HasTiles self.old }
+        requires parts { HasParts self.old }
         requires number { HasNumber self.old.kernel.kernel }
-        ensures tiles { HasTiles self.new }
+        ensures parts { HasParts self.new }
         ensures ok { IfOk result (λ d. DoesAt 0 (parts_of self.old) (parts_of self.new) d
             (part_step self.old.kernel.site (part_of 0 (parts_of self.old)) Event.Close None
             None)) }
@@ -191,13 +192,13 @@ impl Parts {
 
     /// The part that makes the event makes it, where it takes no parcel. Out of memory changes nothing.
     pub fn make(&mut self, alloc: Global, event: Event) -> Result<Done, AllocError>
-        requires tiles { HasTiles self.old }
+        requires parts { HasParts self.old }
         requires setup { IsSetup self.old.kernel.site }
         requires able { IsAble (parts_of self.old) }
         requires declared { IsOfSetup self.old.kernel.site event }
         requires served { IsServed event }
         requires own { IsNoTake event }
-        ensures tiles { HasTiles self.new }
+        ensures parts { HasParts self.new }
         ensures ok { IfOk result (λ d. DoesAt (tile_for_event self.old.kernel.site event)
             (parts_of self.old) (parts_of self.new) d
             (part_step self.old.kernel.site (part_of (tile_for_event self.old.kernel.site event)

@@ -6,7 +6,7 @@ ghost use Rattle.m3_base.specs.declared.program.Seen.{Seen};
 ghost use Rattle.m3_base.specs.Programs.{is_short_move};
 ghost use Rattle.m3_model.specs.Config.KnownActivities.{is_home};
 ghost use Rattle.m3_model.specs.Invariant.Housing.{IsSetup};
-ghost use Rattle.m3_engine.specs.PartsView.{HasTiles, ask_in, parts_of};
+ghost use Rattle.m3_engine.specs.PartsView.{HasParts, ask_in, parts_of};
 ghost use Rattle.m3_engine.specs.ProgramTurn.{IsAsked, IsHeard, IsMove, made_of};
 
 use crate::ask::Ask;
@@ -47,7 +47,7 @@ pub fn move_in_turn<P: Program>(
     act: ActId,
     program: &mut P,
 ) -> Result<Option<Made>, AllocError>
-    requires tiles { HasTiles parts.now }
+    requires parts { HasParts parts.now }
     requires setup { IsSetup parts.now.kernel.site }
     requires declared { is_home parts.now.kernel.site act ≡ true }
     requires heard { IsHeard (ask_in (parts_of parts.now) act) }

@@ -34,19 +34,20 @@ pub struct TileDid {
     pub emit: Option<Emit>,
 }
 
-/// A tile with the stays of the activities that have their home there, and the context of the one that runs.
+/// A tile with the stays of the activities that have their home there, and the context of the one that runs. Contracts
+/// see it as a tile at its site.
 #[derive(Drop)]
 pub struct TilePart {
+    site: Site,
     tile: TileId,
     stays: Stays,
     current: Option<Context>,
 }
 
 impl Model for TilePart {
-    ghost use Rattle.m3_model.specs.Tile.State.{Tile};
-    ghost use Rattle.m3_engine.specs.TileView.{tile_value};
+    ghost use Rattle.m3_engine.specs.TileView.{TileAt, tile_value};
 
-    ghost Value = { Tile };
+    ghost Value = { TileAt };
 
     ghost view = { tile_value };
 }
@@ -156,11 +157,13 @@ pub fn closed_notice_if(grant: &Option<GrantId>) -> Option<Emit>
 
 impl TilePart {
     /// A tile without activities.
-    pub fn new(alloc: Global, tile: TileId) -> Result<TilePart, AllocError>
-        ensures { IfOk result (λ t. t ≡ empty_tile tile) }
+    pub fn new(alloc: Global, site: Site, tile: TileId) -> Result<TilePart, AllocError>
+        ensures site { IfOk result (λ t. t.site ≡ site) }
+        ensures tile { IfOk result (λ t. t.tile ≡ empty_tile tile) }
     {
         let stays = Stays::new(alloc)?;
         Ok(TilePart {
+            site,
             tile,
             stays,
             current: None,
@@ -169,7 +172,8 @@ impl TilePart {
 
     /// One more activity has its home here. It runs, with this context, where it is the first.
     pub fn seat(&mut self, act: ActId, context: Option<Context>) -> Result<(), AllocError>
-        ensures ok { OnOk result (self.new ≡ seated_with act context self.old) }
+        ensures site { self.new.site ≡ self.old.site }
+        ensures ok { OnOk result (self.new.tile ≡ seated_with act context self.old.tile) }
         ensures err { OnErr result (self.new ≡ self.old) }
     {
         self.stays.add(act)?;
@@ -182,7 +186,7 @@ impl TilePart {
     /// The context of the current activity.
     #[inline(always)]
     pub fn current(&self) -> Option<&Context>
-        ensures { option_copied result ≡ self.now.current }
+        ensures { option_copied result ≡ self.now.tile.current }
     {
         self.current.as_ref()
     }
@@ -192,12 +196,12 @@ impl TilePart {
     pub fn command(
         &mut self,
         alloc: Global,
-        site: &Site,
         act: ActId,
         command: Command,
     ) -> Result<TileDid, AllocError>
-        requires { CanIssue self.old.current command }
-        ensures ok { IfOk result (λ d. Does d self.new (tile_do site.now self.old act command)) }
+        requires { CanIssue self.old.tile.current command }
+        ensures site { self.new.site ≡ self.old.site }
+        ensures ok { IfOk result (λ d. Does d self.new.tile (tile_do self.old.site self.old.tile act command)) }
         ensures err { OnErr result (self.new ≡ self.old) }
     {
         match &mut self.current {
@@ -211,7 +215,7 @@ impl TilePart {
                 }
                 let front = front(alloc, context, &command)?;
                 let buffer = buffer(alloc, &command)?;
-                Ok(issue_result(site, context.issue(command, buffer), front))
+                Ok(issue_result(&self.site, context.issue(command, buffer), front))
             }
         }
     }

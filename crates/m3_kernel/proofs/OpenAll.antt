@@ -21,7 +21,7 @@ use Rattle.m3_model.specs.Tile.State.{Tile}
 use Rattle.m3_model.specs.Kernel.State.{ActivityEntry, Kernel}
 use Rattle.m3_model.specs.Kernel.Step.{entry_act, entry_of, join_ready, is_placed_entry, is_coming_entry}
 use Rattle.m3_model.specs.Machine.{Machine, empty_tile, empty_tiles, new_stay, first_there, residency_at_opening, joined_ready, entry_at_opening, with_entries, opened_machine}
-use Rattle.m3_kernel.specs.declared.site.Home.{Home as CodeHome}
+use Rattle.m3_kernel.specs.declared.site.tables.Home.{Home as CodeHome}
 use Rattle.m3_kernel.specs.HomeTableView.{value_of}
 use Rattle.m3_kernel.specs.ActivityView.{opened_as, new_seat}
 use Rattle.m3_kernel.specs.LookupTables.{is_there_at}

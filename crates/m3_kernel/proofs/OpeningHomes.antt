@@ -16,7 +16,7 @@ use Rattle.m3_model.specs.Config.FromSetup.{with_home, with_homes}
 use Rattle.m3_model.specs.Invariant.Distinct.{DistinctHomes}
 use Rattle.m3_model.specs.Machine.{context_or_new}
 use Rattle.m3_kernel.specs.HomeTableView.{value_of, home_tile, AreTiles}
-use Rattle.m3_kernel.specs.declared.site.Home.{Home as CodeHome}
+use Rattle.m3_kernel.specs.declared.site.tables.Home.{Home as CodeHome}
 use Rattle.m3_model.specs.SetupOpening.{opened_site}
 use Rattle.std.proofs.lemmas.Bool.{or_parts}
 use Rattle.m3_kernel.proofs.HomeTable.{found, found_other, none_found, table_with, is_none_of, get_or_replicated}

@@ -1,6 +1,6 @@
 -- The homes of activities, in a list as declared and in tables: by the activity's number, and by the tile's.
 use Rattle.std.specs.Prelude.{◌≡◌, ℕ, zero, suc, Bool, ◌==◌, List, [], ◌∷◌, ◌++◌, length, filter, Option, Some, None, slice_index_or}
-use Rattle.m3_kernel.specs.declared.site.Home.{Home as CodeHome}
+use Rattle.m3_kernel.specs.declared.site.tables.Home.{Home as CodeHome}
 use Rattle.m3_model.specs.Config.Site.{Home, Site, home_act, home_has_program}
 use Rattle.m3_base.specs.Lists.Keyed as keyed
 use Rattle.m3_base.specs.Ideal.State.{same_act}

@@ -11,7 +11,7 @@ use Rattle.m3_model.specs.SetupOpening.{opened_site}
 use Rattle.m3_trace.specs.JournalEntry.{entry}
 use Rattle.m3_machine.specs.MachineStep.{IsDrivenOn, IsStep}
 use Rattle.m3_machine.specs.MachineView.{MachineValue, configuration, ideal, placement}
-use Rattle.m3_machine.proofs.ConfigurationSteps.{choices_more, last_more, places_move}
+use Rattle.m3_trace.proofs.ConfigurationSteps.{choices_more, last_more, places_move}
 
 module _ {P : Type 0} where
   pub none_driven : (budget : ℕ) (w : MachineValue P) → IsDrivenOn budget w w

@@ -25,11 +25,11 @@ use Rattle.m3_machine.specs.EventNames.{NamesActs}
 use Rattle.m3_machine.specs.MachineStep.{IsStep}
 use Rattle.m3_machine.specs.MachineView.{HasBounds, MachineValue}
 use Rattle.m3_machine.specs.ProgramCalls.{AreCalled, HasPrograms, IsCalled, meanings_of}
+use Rattle.m3_trace.proofs.ConfigurationSteps.{each_after}
 use Rattle.m3_trace.proofs.TraceGrows.{asked_are_heard, calls_grow}
 use Rattle.m3_trace.proofs.hearing.JournalGrows.{calls_more}
 use Rattle.m3_machine.proofs.CallsLead.{called_on}
 use Rattle.m3_machine.proofs.JournalGrows.{EngineStepMeans, engine_means, longer_trace, still_site}
-use Rattle.m3_machine.proofs.OrdersLeft.{each_after}
 use Rattle.m3_machine.proofs.ProgramSteps.{kept_alike, kept_places, one_alike, one_called, one_places, same_places}
 use Rattle.m3_machine.proofs.SetupEvents.{of_setup}
 

@@ -19,7 +19,8 @@ use Rattle.m3_model.specs.ReadyLists.{ReadyOk}
 use Rattle.m3_refine.proofs.lists.EachElement.{InSome}
 use Rattle.m3_model.specs.Kernel.Driver.{least_tend, next_switch}
 use Rattle.m3_trace.specs.DriverOfMachine.{next_event_left, next_take, turn_at}
-use Rattle.m3_trace.proofs.DriverEventsFit.{FitsSetup, next_fits}
+use Rattle.m3_trace.specs.Continuation.{FitsSetup}
+use Rattle.m3_trace.proofs.DriverEventsFit.{next_fits}
 
 abbrev pub IsNamed : Site → Event → Type 0
 IsNamed h e = IsOfSetup h e × SuitsPrograms h e

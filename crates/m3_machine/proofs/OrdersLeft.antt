@@ -3,7 +3,6 @@ use Rattle.std.proofs.Common.{◌≡◌, List, [], ◌∷◌, refl}
 use Rattle.m3_base.specs.declared.event.Event.{Event}
 use Rattle.m3_base.specs.declared.order.Order.{Order}
 use Rattle.m3_base.specs.DriverRun.Configuration.{orders_after}
-use Rattle.m3_base.specs.Lists.EachElement.{Each}
 use Rattle.m3_machine.specs.OrdersLeft.{is_order, without_first}
 
 pub left_after : (left : List Order) (e : Event) → without_first (is_order e) left ≡ orders_after left e
@@ -21,14 +20,3 @@ left_after (x ∷ xs) (Event.Take to from) = refl
 left_after (x ∷ xs) (Event.Tend a) = refl
 left_after (x ∷ xs) Event.Close = refl
 left_after (x ∷ xs) (Event.File line) = refl
-
--- what holds of all holds of those that are left
-pub each_after : (Q : Order → Type 0) (left : List Order) (e : Event) → Each Q left → Each Q (orders_after left e)
-each_after Q [] e k = tt
-each_after Q (x ∷ xs) (Event.Order o) k = k.1
-each_after Q (x ∷ xs) (Event.Do a c) k = k
-each_after Q (x ∷ xs) (Event.Turn a) k = k
-each_after Q (x ∷ xs) (Event.Take to from) k = k
-each_after Q (x ∷ xs) (Event.Tend a) k = k
-each_after Q (x ∷ xs) Event.Close k = k
-each_after Q (x ∷ xs) (Event.File line) k = k

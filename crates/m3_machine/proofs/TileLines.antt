@@ -1,9 +1,9 @@
 -- The closing lines on tiles, one more at a time.
-use Rattle.std.proofs.Common.{◌≡◌, ℕ, suc, ◌+◌, ◌-◌, ◌<◌, List, [], ◌∷◌, ◌++◌, length, get_or, map, Option, Some, None, Bool, true, false, not, is_some, is_none, refl, sym, ap, ◌∙◌, append_assoc, arith}
+use Rattle.std.proofs.Common.{◌≡◌, ℕ, suc, ◌+◌, ◌-◌, ◌<◌, List, [], ◌∷◌, ◌++◌, length, get_or, map, Option, Some, None, Bool, true, false, not, is_some, is_none, refl, sym, ap, subst, ◌∙◌, append_assoc, arith}
 use Rattle.std.proofs.lemmas.Bool.{false≢true}
-use Rattle.std.proofs.lemmas.List.{get_or-map}
+use Rattle.std.proofs.lemmas.List.{get_or-map, length-map}
 use Rattle.m3_base.specs.declared.journal.AuditLine.{AuditLine}
-use Rattle.m3_model.specs.Tile.State.{Tile}
+use Rattle.m3_engine.specs.TileView.{TileAt, tiles_of}
 use Rattle.m3_model.specs.Tile.Step.{act_in}
 use Rattle.m3_model.specs.Abstraction.{current_act}
 use Rattle.m3_trace.specs.DriverOfMachine.{tile_lines_from}
@@ -22,8 +22,10 @@ line_added t count current old new act within e added =
     ∙ ap (λ ls. ls ++ left) (sym added)
 
 -- who runs on a tile that was read
-pub act_read : (tiles : List Tile) (t : ℕ) (x : Tile) → t < length tiles → x ≡ get_or tiles t x → act_in x.current ≡ get_or (map current_act tiles) t None
-act_read tiles t x within e = ap current_act e ∙ sym (get_or-map current_act tiles t x None within)
+pub act_read : (tiles : List TileAt) (t : ℕ) (x : TileAt) → t < length tiles → x ≡ get_or tiles t x → act_in x.tile.current ≡ get_or (map current_act (tiles_of tiles)) t None
+act_read tiles t x within e =
+    ap (λ (y : TileAt). current_act y.tile) e
+    ∙ sym (get_or-map current_act (tiles_of tiles) t x.tile None (subst (λ n. t < n) (sym (length-map tiles (λ (y : TileAt). y.tile))) within) ∙ ap current_act (get_or-map (λ (y : TileAt). y.tile) tiles t x x.tile within))
 
 -- the four parts, one after the other
 pub all_lines : (none credits tiled flown lines credit_part tile_part : List AuditLine) (f q : AuditLine) → none ≡ [] → credits ≡ none ++ credit_part → tiled ≡ credits ++ tile_part → flown ≡ tiled ++ f ∷ [] → lines ≡ flown ++ q ∷ []

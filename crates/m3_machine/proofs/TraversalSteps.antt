@@ -5,12 +5,14 @@ use Rattle.std.proofs.Math.ListN.{drop_of_length-le}
 use Rattle.std.specs.declared.collections.VecDeque.{VecDeque}
 use Rattle.std.specs.declared.alloc.Global.{Global}
 use Rattle.m3_core.specs.declared.parcel.Parcel.{Parcel as CodeParcel}
+use Rattle.m3_engine.specs.TileView.{TileAt, tiles_of}
 use Rattle.m3_kernel.specs.declared.seat.Seat.{Seat as CodeSeat}
 use Rattle.m3_kernel.specs.ActivityView.{seat_value, seats_of}
 use Rattle.m3_kernel.specs.ParcelView.{parcel_of, parcels_of}
 use Rattle.m3_link.specs.LinksView.{lists_in}
 use Rattle.m3_model.specs.Kernel.State.{ActivityEntry}
 use Rattle.m3_model.specs.Parcel.{Parcel}
+use Rattle.m3_model.specs.Tile.State.{Tile}
 use Rattle.m3_model.specs.Abstraction.{flat_map, flat_links}
 
 -- C and P are what is visited, S is what visits
@@ -35,6 +37,13 @@ module _ {X Y : Type 0} (f : X → List Y) where
 
   pub each_past : (xs : List X) (i : ℕ) → length xs ≤ i → flat_map f (drop i xs) ≡ []
   each_past xs i past = ap (flat_map f) (drop_of_length-le xs past)
+
+module _ {Y : Type 0} (f : Tile → List Y) where
+  pub tiles_more : (tiles : List TileAt) (i : ℕ) (x : TileAt) → i < length tiles → x ≡ get_or tiles i x → flat_map f (tiles_of (drop i tiles)) ≡ f x.tile ++ flat_map f (tiles_of (drop (i + 1) tiles))
+  tiles_more tiles i x within is = ap (λ ts. flat_map f (tiles_of ts)) (drop_more tiles i x within ∙ ap (λ y. y ∷ drop (i + 1) tiles) (sym is))
+
+  pub tiles_past : (tiles : List TileAt) (i : ℕ) → length tiles ≤ i → flat_map f (tiles_of (drop i tiles)) ≡ []
+  tiles_past tiles i past = ap (λ ts. flat_map f (tiles_of ts)) (drop_of_length-le tiles past)
 
 module _ {Y : Type 0} (f : ActivityEntry → List Y) where
   pub seats_more : (seats : List CodeSeat) (i : ℕ) (x : CodeSeat) → i < length seats → x ≡ get_or seats i x → flat_map f (seats_of (drop i seats)) ≡ f (seat_value x) ++ flat_map f (seats_of (drop (i + 1) seats))

@@ -7,6 +7,7 @@ ghost use Rattle.m3_kernel.specs.ActivityView.{seat_value, seats_of};
 ghost use Rattle.m3_link.specs.LinkOps.{data_on};
 ghost use Rattle.m3_model.specs.Abstraction.{flat_map, held_by};
 ghost use Rattle.m3_machine.specs.AuditView.{IsSized, AreCreditsOf, live_line, live_lines};
+ghost use Rattle.m3_engine.specs.TileView.{tiles_of};
 ghost use Rattle.m3_machine.specs.Traversal.{contexts_of, packets_of};
 ghost use Rattle.m3_trace.specs.DriverOfMachine.{tile_lines};
 
@@ -30,7 +31,7 @@ fn counted(
     links: &Wires,
 ) -> Result<CreditCounts, AllocError>
     ensures { IfOk result (AreCreditsOf
-        (contexts_of tiles.now (seats_of seats.now) (parcels_of links.now.lists))
+        (contexts_of (tiles_of tiles.now) (seats_of seats.now) (parcels_of links.now.lists))
         (packets_of (seats_of seats.now) (parcels_of links.now.lists))) }
 {
     let mut contexts = ContextTable::new(alloc)?;
@@ -73,7 +74,7 @@ pub fn credit_lines(
     lines: &mut Vec<AuditLine>,
 ) -> Result<(), AllocError>
     ensures { OnOk result (lines.new.items ≡ lines.old.items ++ live_lines
-        (contexts_of tiles.now (seats_of seats.now) (parcels_of links.now.lists))
+        (contexts_of (tiles_of tiles.now) (seats_of seats.now) (parcels_of links.now.lists))
         (packets_of (seats_of seats.now) (parcels_of links.now.lists)) grants.now.grants) }
 {
     let counts = counted(alloc, tiles, seats, links)?;
@@ -116,7 +117,7 @@ pub fn tile_lines(
 ) -> Result<(), AllocError>
     requires count { count ≤ 16 }
     requires tiles { length tiles.now ≡ 16 }
-    ensures { OnOk result (lines.new.items ≡ lines.old.items ++ tile_lines count tiles.now) }
+    ensures { OnOk result (lines.new.items ≡ lines.old.items ++ tile_lines count (tiles_of tiles.now)) }
 {
     for number in 2..count {
         let act = match tiles[usize::from(number)].current() {

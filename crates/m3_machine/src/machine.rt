@@ -1,6 +1,6 @@
 //! The machine: its engine, its programs, the orders that are left, and a recorder of what it did.
 
-ghost use Rattle.std.specs.Prelude.{◌≡◌, ◌↔◌, ◌≤◌, ℕ, [], length, OnOk, OnErr, IfOk, IfSome, Err, true, nat_le};
+ghost use Rattle.std.specs.Prelude.{◌≡◌, ◌↔◌, ◌≤◌, ℕ, [], length, OnOk, OnErr, IfOk, IfSome, Err, nat_le};
 ghost use Rattle.m3_base.specs.declared.event.Event.{Event as EventValue};
 ghost use Rattle.m3_base.specs.Calls.JournalCalls.{all_calls};
 ghost use Rattle.m3_base.specs.Ideal.Opening.{opening};
@@ -12,7 +12,6 @@ ghost use Rattle.m3_base.specs.Placement.Driver.{next_event};
 ghost use Rattle.m3_base.specs.Placement.Opening.{placement_at_opening};
 ghost use Rattle.m3_base.specs.Setup.Rules.{IsValid};
 ghost use Rattle.m3_laws.specs.JournalLaws.{AfterEach, KeepsLaws};
-ghost use Rattle.m3_model.specs.Config.Site.{has_program};
 ghost use Rattle.m3_model.specs.Events.{IsOfSetup, IsWithin, SuitsPrograms};
 ghost use Rattle.m3_model.specs.SetupOpening.{opened_by_setup, opened_site};
 ghost use Rattle.m3_trace.specs.Invariant.{PlacementRun};
@@ -227,8 +226,8 @@ impl<P: Program + Drop, R: Recorder + Drop> Machine<P, R> {
             (placement_at_opening self.now.setup.lines) self.now.entries (placement self.now) }
         ensures laws { AfterEach (KeepsLaws (opening self.now.setup.memory self.now.setup.lines)) self.now.entries }
         ensures there { HasPrograms (opened_site self.now.setup) self.now.initial }
-        ensures ends { (a : ℕ) → has_program (opened_site self.now.setup) a ≡ true →
-            EndsLast (all_calls a (opening self.now.setup.memory self.now.setup.lines) self.now.entries) }
+        ensures ends { (a : ℕ) → EndsLast
+            (all_calls a (opening self.now.setup.memory self.now.setup.lines) self.now.entries) }
         ensures reach { AreCalled P.moves self.now.initial (meanings_of P.meaning self.now.initial)
             (λ a. all_calls a (opening self.now.setup.memory self.now.setup.lines) self.now.entries) self.now.meanings }
     {

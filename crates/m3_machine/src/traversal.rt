@@ -7,6 +7,7 @@ ghost use Rattle.m3_kernel.specs.ParcelView.{parcel_of, parcels_of};
 ghost use Rattle.m3_kernel.specs.ActivityView.{seat_value, seats_of};
 ghost use Rattle.m3_link.specs.LinksView.{lists_in};
 ghost use Rattle.m3_model.specs.Abstraction.{flat_map, flat_links, tile_contexts, entry_contexts, held_by, contexts_in, packets_in};
+ghost use Rattle.m3_engine.specs.TileView.{tiles_of};
 ghost use Rattle.m3_machine.specs.Traversal.{Composes, contexts_of, packets_of};
 
 use m3_base::packet::Packet;
@@ -33,7 +34,7 @@ pub trait Visitor<'a> {
 /// The context of a tile's current activity.
 fn visit_tile<'a, V: Visitor<'a>>(tile: &'a TilePart, visitor: &mut V)
     requires { Composes V.visits }
-    ensures { V.visits (tile_contexts tile.now) [] visitor.old visitor.new }
+    ensures { V.visits (tile_contexts tile.now.tile) [] visitor.old visitor.new }
 {
     if let Some(context) = tile.current() {
         visitor.context(context);
@@ -42,7 +43,7 @@ fn visit_tile<'a, V: Visitor<'a>>(tile: &'a TilePart, visitor: &mut V)
 
 fn visit_tiles<'a, V: Visitor<'a>>(tiles: &'a [TilePart], visitor: &mut V)
     requires { Composes V.visits }
-    ensures { V.visits (flat_map tile_contexts tiles.now) [] visitor.old visitor.new }
+    ensures { V.visits (flat_map tile_contexts (tiles_of tiles.now)) [] visitor.old visitor.new }
 {
     for tile in tiles {
         visit_tile(tile, visitor);
@@ -127,7 +128,7 @@ pub fn visit_all<'a, V: Visitor<'a>>(
     visitor: &mut V,
 )
     requires { Composes V.visits }
-    ensures { V.visits (contexts_of tiles.now (seats_of seats.now) (parcels_of links.now.lists))
+    ensures { V.visits (contexts_of (tiles_of tiles.now) (seats_of seats.now) (parcels_of links.now.lists))
         (packets_of (seats_of seats.now) (parcels_of links.now.lists)) visitor.old visitor.new }
 {
     visit_tiles(tiles, visitor);

@@ -88,7 +88,7 @@ impl TilePart {
     /// Whether the packet is for the current activity.
     #[inline(always)]
     fn is_for(&self, packet: &Packet) -> bool
-        ensures { result ≡ is_here (target packet.now) (act_in self.now.current) }
+        ensures { result ≡ is_here (target packet.now) (act_in self.now.tile.current) }
     {
         match (&self.current, target_of(packet)) {
             (Some(context), Some(target)) => context.act().number() == target,
@@ -99,7 +99,7 @@ impl TilePart {
     /// Whether this activity is the current one.
     #[inline(always)]
     fn runs(&self, act: ActId) -> bool
-        ensures { result ≡ runs act self.now.current }
+        ensures { result ≡ runs act self.now.tile.current }
     {
         match &self.current {
             None => false,
@@ -108,18 +108,18 @@ impl TilePart {
     }
 
     /// Whether the packet fits the current context, and names activities of the setup alone.
-    fn accepts(&self, site: &Site, packet: &Packet) -> bool
-        ensures { result ≡ accepts site.now packet.now self.now.current }
+    fn accepts(&self, packet: &Packet) -> bool
+        ensures { result ≡ accepts self.now.site packet.now self.now.tile.current }
     {
         match &self.current {
             None => false,
-            Some(context) => site.names(packet) && context.fits(packet),
+            Some(context) => self.site.names(packet) && context.fits(packet),
         }
     }
 
     /// What the program of the current activity is to hear of the packet.
     fn heard(&self, alloc: Global, packet: &Packet) -> Result<Option<Heard>, AllocError>
-        ensures { IfOk result (λ h. TileHears packet.now self.now h) }
+        ensures { IfOk result (λ h. TileHears packet.now self.now.tile h) }
     {
         match &self.current {
             None => Ok(None),
@@ -131,16 +131,17 @@ impl TilePart {
     }
 
     /// The packet arrives at the current activity, whose program hears this.
-    fn deliver(&mut self, site: &Site, packet: Packet, heard: Option<Heard>) -> TileDid
-        requires here { is_here (target packet) (act_in self.old.current) ≡ true }
-        requires accepted { accepts site.now packet self.old.current ≡ true }
-        requires heard { TileHears packet self.old heard }
-        ensures { Does result self.new (take_data site.now self.old packet) }
+    fn deliver(&mut self, packet: Packet, heard: Option<Heard>) -> TileDid
+        requires here { is_here (target packet) (act_in self.old.tile.current) ≡ true }
+        requires accepted { accepts self.old.site packet self.old.tile.current ≡ true }
+        requires heard { TileHears packet self.old.tile heard }
+        ensures site { self.new.site ≡ self.old.site }
+        ensures does { Does result self.new.tile (take_data self.old.site self.old.tile packet) }
     {
         match &mut self.current {
             None => unreachable!(),
             Some(context) => {
-                let did = deliver(site, context, packet);
+                let did = deliver(&self.site, context, packet);
                 self.stays.hear(context.act(), heard);
                 did
             }
@@ -149,7 +150,8 @@ impl TilePart {
 
     /// The current activity leaves with its whole context, where it is this one.
     fn save(&mut self, act: ActId) -> TileDid
-        ensures { Does result self.new (take_save self.old act self.old.current) }
+        ensures site { self.new.site ≡ self.old.site }
+        ensures does { Does result self.new.tile (take_save self.old.tile act self.old.tile.current) }
     {
         if !self.runs(act) {
             return is_idle(IdleWhy::EmptyLink);
@@ -165,17 +167,13 @@ impl TilePart {
 
     /// This activity runs here with its context, where nobody runs, it has its home here, the context is its own, and the
     /// context may come back. Its stay begins, and its program hears what came while it was away.
-    fn restore(
-        &mut self,
-        site: &Site,
-        act: ActId,
-        context: Context,
-        heard: Option<Heard>,
-    ) -> TileDid
-        ensures { Does result self.new (take_restore site.now self.old act context (heard_in heard) self.old.current) }
+    fn restore(&mut self, act: ActId, context: Context, heard: Option<Heard>) -> TileDid
+        ensures site { self.new.site ≡ self.old.site }
+        ensures does { Does result self.new.tile
+            (take_restore self.old.site self.old.tile act context (heard_in heard) self.old.tile.current) }
     {
         let owner = context.act();
-        if self.current.is_some() || !may_return(site, act, &context) {
+        if self.current.is_some() || !may_return(&self.site, act, &context) {
             return is_idle(IdleWhy::EmptyLink);
         }
         if !self.stays.restart(owner, heard) {
@@ -190,18 +188,14 @@ impl TilePart {
     /// of its activity, its activity has its home here, its context names activities of the setup alone, and its next
     /// number and next tokens are at most 2,097,153. Anything else is dropped, as if the link were empty. It takes memory
     /// for an answer that a program waits for alone; without it nothing changes and the parcel comes back.
-    pub fn take(
-        &mut self,
-        alloc: Global,
-        site: &Site,
-        parcel: Parcel,
-    ) -> Result<TileDid, (Parcel, AllocError)>
-        ensures ok { IfOk result (λ d. Does d self.new (tile_take site.now self.old (parcel_of parcel))) }
+    pub fn take(&mut self, alloc: Global, parcel: Parcel) -> Result<TileDid, (Parcel, AllocError)>
+        ensures site { self.new.site ≡ self.old.site }
+        ensures ok { IfOk result (λ d. Does d self.new.tile (tile_take self.old.site self.old.tile (parcel_of parcel))) }
         ensures err { OnErr result (self.new ≡ self.old) }
         ensures given_back { IfErr result (λ e. e.0 ≡ parcel) }
     {
         match parcel {
-            Parcel::Data(packet) => match self.take_data(alloc, site, packet) {
+            Parcel::Data(packet) => match self.take_data(alloc, packet) {
                 Ok(did) => Ok(did),
                 Err((packet, error)) => Err((Parcel::Data(packet), error)),
             },
@@ -210,7 +204,7 @@ impl TilePart {
                 act,
                 context,
                 heard,
-            } => Ok(self.restore(site, act, context, heard)),
+            } => Ok(self.restore(act, context, heard)),
             _ => Ok(is_idle(IdleWhy::EmptyLink)),
         }
     }
@@ -223,22 +217,22 @@ impl TilePart {
     pub fn take_data(
         &mut self,
         alloc: Global,
-        site: &Site,
         packet: Packet,
     ) -> Result<TileDid, (Packet, AllocError)>
-        ensures ok { IfOk result (λ d. Does d self.new (take_data site.now self.old packet)) }
+        ensures site { self.new.site ≡ self.old.site }
+        ensures ok { IfOk result (λ d. Does d self.new.tile (take_data self.old.site self.old.tile packet)) }
         ensures err { OnErr result (self.new ≡ self.old) }
         ensures given_back { IfErr result (λ e. e.0 ≡ packet) }
     {
         if !self.is_for(&packet) {
             return Ok(bounced(packet));
         }
-        if !self.accepts(site, &packet) {
+        if !self.accepts(&packet) {
             return Ok(is_idle(IdleWhy::EmptyLink));
         }
         match self.heard(alloc, &packet) {
             Err(error) => Err((packet, error)),
-            Ok(heard) => Ok(self.deliver(site, packet, heard)),
+            Ok(heard) => Ok(self.deliver(packet, heard)),
         }
     }
 }

@@ -15,13 +15,12 @@ use m3_base::event::{Event, IdleWhy, Made};
 use m3_base::ids::ActId;
 use m3_base::program::Seen;
 use m3_core::context::Context;
-use m3_kernel::site::Site;
 use std::alloc::Global;
 
 impl TilePart {
     /// What the next turn of this activity asks for.
-    pub fn ask(&self, site: &Site, act: ActId) -> Ask
-        ensures { result ≡ ask_kind (turn_ask site.now self.now act) }
+    pub fn ask(&self, act: ActId) -> Ask
+        ensures { result ≡ ask_kind (turn_ask self.now.site self.now.tile act) }
     {
         match &self.current {
             None => Ask::Idle(IdleWhy::NotCurrent),
@@ -31,7 +30,7 @@ impl TilePart {
                 }
                 match self.stays.find(act) {
                     None => Ask::Idle(IdleWhy::NotCurrent),
-                    Some(stay) => stay.ask(site, self.tile, context),
+                    Some(stay) => stay.ask(&self.site, self.tile, context),
                 }
             }
         }
@@ -39,7 +38,7 @@ impl TilePart {
 
     /// What the program of this activity sees at its next move. None where it has no home here, or waits for an answer.
     pub fn seen(&self, act: ActId) -> Option<&Seen>
-        ensures { option_copied result ≡ shown_to (resident_of act self.now) }
+        ensures { option_copied result ≡ shown_to (resident_of act self.now.tile) }
     {
         match self.stays.find(act) {
             None => None,
@@ -49,7 +48,7 @@ impl TilePart {
 
     /// Whether the turn of who runs with this context isn't idle.
     fn can_move(&self, context: &Context) -> bool
-        ensures { result ≡ can_move_in context.now (resident_of context.now.act self.now) }
+        ensures { result ≡ can_move_in context.now (resident_of context.now.act self.now.tile) }
     {
         match self.stays.find(context.act()) {
             None => false,
@@ -58,14 +57,14 @@ impl TilePart {
     }
 
     /// The turn of the current activity, where it has a program and its turn isn't idle.
-    pub fn next_turn(&self, site: &Site) -> Option<Event>
-        ensures { result ≡ turn_of site.now self.now }
+    pub fn next_turn(&self) -> Option<Event>
+        ensures { result ≡ turn_of self.now.site self.now.tile }
     {
         match &self.current {
             None => None,
             Some(context) => {
                 let act = context.act();
-                if site.has_program(act.number()) && self.can_move(context) {
+                if self.site.has_program(act.number()) && self.can_move(context) {
                     Some(Event::Turn(act))
                 } else {
                     None
@@ -75,39 +74,33 @@ impl TilePart {
     }
 
     /// A turn that makes nothing.
-    fn idle_turn(&self, site: &Site, act: ActId) -> TileDid
-        requires resident { IsPresent (resident_of act self.now) }
-        requires answers { answers_ask (turn_ask site.now self.now act) None ≡ true }
+    fn idle_turn(&self, act: ActId) -> TileDid
+        requires resident { IsPresent (resident_of act self.now.tile) }
+        requires answers { answers_ask (turn_ask self.now.site self.now.tile act) None ≡ true }
         ensures made { result.outcome.made ≡ None }
-        ensures does { TurnDoes result self.now (tile_turn site.now self.now act None) }
+        ensures does { TurnDoes result self.now.tile (tile_turn self.now.site self.now.tile act None) }
     {
-        match self.ask(site, act) {
+        match self.ask(act) {
             Ask::Idle(why) => is_idle(why),
             _ => unreachable!(),
         }
     }
 
     /// A turn with this move.
-    fn made_turn(
-        &mut self,
-        alloc: Global,
-        site: &Site,
-        spares: &mut Spares,
-        act: ActId,
-        made: Made,
-    ) -> TileDid
-        requires resident { IsPresent (resident_of act self.old) }
-        requires answers { answers_ask (turn_ask site.now self.old act) (Some made) ≡ true }
-        requires can { CanTurn self.old act (Some made) }
+    fn made_turn(&mut self, alloc: Global, spares: &mut Spares, act: ActId, made: Made) -> TileDid
+        requires resident { IsPresent (resident_of act self.old.tile) }
+        requires answers { answers_ask (turn_ask self.old.site self.old.tile act) (Some made) ≡ true }
+        requires can { CanTurn self.old.tile act (Some made) }
         requires full { AreFull spares.old }
+        ensures site { self.new.site ≡ self.old.site }
         ensures made { result.outcome.made ≡ Some made }
-        ensures does { TurnDoes result self.new (tile_turn site.now self.old act (Some made)) }
+        ensures does { TurnDoes result self.new.tile (tile_turn self.old.site self.old.tile act (Some made)) }
     {
         match &mut self.current {
             None => unreachable!(),
             Some(context) => self
                 .stays
-                .make_move(alloc, site, spares, context, act, made),
+                .make_move(alloc, &self.site, spares, context, act, made),
         }
     }
 
@@ -115,21 +108,21 @@ impl TilePart {
     pub fn turn(
         &mut self,
         alloc: Global,
-        site: &Site,
         spares: &mut Spares,
         act: ActId,
         made: Option<Made>,
     ) -> TileDid
-        requires resident { IsPresent (resident_of act self.old) }
-        requires answers { answers_ask (turn_ask site.now self.old act) made ≡ true }
-        requires can { CanTurn self.old act made }
+        requires resident { IsPresent (resident_of act self.old.tile) }
+        requires answers { answers_ask (turn_ask self.old.site self.old.tile act) made ≡ true }
+        requires can { CanTurn self.old.tile act made }
         requires full { AreFull spares.old }
+        ensures site { self.new.site ≡ self.old.site }
         ensures made { result.outcome.made ≡ made }
-        ensures does { TurnDoes result self.new (tile_turn site.now self.old act made) }
+        ensures does { TurnDoes result self.new.tile (tile_turn self.old.site self.old.tile act made) }
     {
         match made {
-            None => self.idle_turn(site, act),
-            Some(made) => self.made_turn(alloc, site, spares, act, made),
+            None => self.idle_turn(act),
+            Some(made) => self.made_turn(alloc, spares, act, made),
         }
     }
 }

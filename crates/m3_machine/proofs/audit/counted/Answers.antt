@@ -4,6 +4,7 @@ use Rattle.std.specs.Borrow.{Bor}
 use Rattle.m3_base.specs.Ideal.Context.{Context}
 use Rattle.m3_kernel.specs.ParcelView.{parcels_of}
 use Rattle.m3_kernel.specs.ActivityView.{seats_of}
+use Rattle.m3_engine.specs.TileView.{tiles_of}
 use Rattle.m3_machine.specs.CreditCounts.{listed, last_of}
 use Rattle.m3_machine.specs.Traversal.{contexts_of, packets_of}
 use Rattle.m3_machine.proofs.CountCredits.{tallied, counts_by_none, counts_by_both}
@@ -32,7 +33,7 @@ pub returns : goal.returns
 returns c =
     let seats = seats_of c.args.seats.now in
     let links = parcels_of c.args.links.now.lists in
-    let cs = contexts_of c.args.tiles.now seats links in
+    let cs = contexts_of (tiles_of c.args.tiles.now) seats links in
     let table = c.visit_all.new.visitor.contexts.items in
     let entered = c.visit_all.ensures (ap length c.in_ok-contexts.ensures ∙ length-replicate {A = Option (Bor Context)} 256 None) in
     let found : (a : ℕ) → listed table a ≡ last_of None a cs =

@@ -4,6 +4,7 @@ use Rattle.m3_base.specs.declared.journal.AuditLine.{AuditLine}
 use Rattle.m3_base.specs.Ideal.State.{grant_in}
 use Rattle.m3_kernel.specs.ParcelView.{parcels_of}
 use Rattle.m3_kernel.specs.ActivityView.{seats_of}
+use Rattle.m3_engine.specs.TileView.{tiles_of}
 use Rattle.m3_machine.specs.Traversal.{contexts_of, packets_of}
 use Rattle.m3_machine.specs.AuditView.{live_line, counts_lines}
 use Rattle.m3_machine.proofs.CreditLines.{lines_more, line_joined, counts_are, lines_end, no_line}
@@ -36,4 +37,4 @@ returns c =
     let few : length gs ≤ 4096 = let r = c.count-count.ensures.range in omega arith in
     let past : length gs < n = let done = c.loop-number-test.false in omega arith in
     sym (c.loop-number.invariant ∙ lines_end t gs n past c.loop-number.lines.items)
-    ∙ ap (λ l. c.args.lines.now.items ++ l) (counts_are t (contexts_of c.args.tiles.now seats links) (packets_of seats links) gs c.in_ok-counts.ensures few)
+    ∙ ap (λ l. c.args.lines.now.items ++ l) (counts_are t (contexts_of (tiles_of c.args.tiles.now) seats links) (packets_of seats links) gs c.in_ok-counts.ensures few)

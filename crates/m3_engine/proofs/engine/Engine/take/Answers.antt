@@ -14,7 +14,7 @@ use Rattle.m3_engine.proofs.engine.Engine.take.Goals as goal
 pub invariant_of-self-in-Ok : goal.invariant_of-self-in-Ok
 invariant_of-self-in-Ok c = record {
   setup = subst (λ (h : Site). IsSetup h) (sym (c.in-Ok.ensures.ok 0).site) c.self.invariant.setup;
-  tiles = c.in-Ok.ensures.tiles;
+  parts = c.in-Ok.ensures.parts;
 }
 
 pub returns-in-None-clause-ok : goal.returns-in-None-clause-ok

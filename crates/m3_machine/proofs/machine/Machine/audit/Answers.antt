@@ -3,6 +3,7 @@ use Rattle.m3_base.specs.declared.journal.AuditLine.{AuditLine}
 use Rattle.m3_base.specs.Setup.Rules.{SetupValue}
 use Rattle.m3_base.specs.Journal.Audit.{audit_lines}
 use Rattle.m3_base.specs.Placement.Driver as driver
+use Rattle.m3_engine.specs.TileView.{tiles_of}
 use Rattle.m3_endpoint.specs.Counters.{most}
 use Rattle.m3_kernel.specs.ParcelView.{parcels_of}
 use Rattle.m3_kernel.specs.ActivityView.{seats_of}
@@ -28,11 +29,11 @@ returns g c =
     let lists = c.wires-wires.result.now.lists in
     let seats = seats_of c.seats-seats.result.now in
     let on : parcels_of lists ≡ m.links = c.wires-wires.ensures in
-    let credits : live_lines (contexts_of c.tiles-tiles.result.now seats (parcels_of lists)) (packets_of seats (parcels_of lists)) c.grants.result.now.grants ≡ live_lines (all_contexts m) (all_packets m) m.kernel.grants =
+    let credits : live_lines (contexts_of (tiles_of c.tiles-tiles.result.now) seats (parcels_of lists)) (packets_of seats (parcels_of lists)) c.grants.result.now.grants ≡ live_lines (all_contexts m) (all_packets m) m.kernel.grants =
     (λ k. live_lines (contexts_of (c.tiles-tiles.ensures.tiles k) (c.seats-seats.ensures k) (on k)) (packets_of (c.seats-seats.ensures k) (on k)) (c.grants.ensures k)) in
-    let tiles_of : c.tiles.result ≡ s.tiles = c.tiles.ensures ∙ ap (λ (x : SetupValue). x.tiles) c.setup.ensures in
-    let tiled : tile_lines c.tiles.result c.tiles-tiles.result.now ≡ tile_lines s.tiles m.tiles =
-    (λ k. tile_lines (tiles_of k) (c.tiles-tiles.ensures.tiles k)) in
+    let size : c.tiles.result ≡ s.tiles = c.tiles.ensures ∙ ap (λ (x : SetupValue). x.tiles) c.setup.ensures in
+    let tiled : tile_lines c.tiles.result (tiles_of c.tiles-tiles.result.now) ≡ tile_lines s.tiles m.tiles =
+    (λ k. tile_lines (size k) (c.tiles-tiles.ensures.tiles k)) in
     let held = flat_map held_by m.kernel.seats in
     let all : length held + data_on lists ≡ length (held ++ flat_links packets_in (parcels_of lists)) = (let a = flights_are lists in let b = length-append held (flat_links packets_in (parcels_of lists)) in omega arith) in
     let flown : c.flights.result ≡ min most (length (all_packets m)) =

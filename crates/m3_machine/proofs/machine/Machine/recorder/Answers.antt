@@ -1,4 +1,4 @@
-use Rattle.std.proofs.Common.{◌≡◌, ◌≤◌, [], length, true, sym, subst}
+use Rattle.std.proofs.Common.{◌≡◌, ◌≤◌, [], length, subst}
 use Rattle.m3_base.specs.Journal.Entry.{IsRun, state_after_entries}
 use Rattle.m3_base.specs.Ideal.Opening.{opening}
 use Rattle.m3_base.specs.Placement.Opening.{placement_at_opening}
@@ -7,13 +7,12 @@ use Rattle.m3_base.specs.Setup.Rules.{IsValid}
 use Rattle.m3_base.proofs.PrintedReplies.{seen_given}
 use Rattle.m3_laws.specs.JournalLaws.{AfterEach, KeepsLaws}
 use Rattle.m3_trace.specs.Invariant.{PlacementRun}
+use Rattle.m3_trace.proofs.ProgramCalls.{ends_last}
 use Rattle.m3_trace.proofs.TraceGrows.{trace_run, trace_reaches, trace_places, trace_laws}
 use Rattle.m3_base.specs.Calls.JournalCalls.{all_calls}
 use Rattle.m3_machine.specs.ProgramCalls.{AreCalled, HasPrograms, meanings_of}
-use Rattle.m3_model.specs.Config.Site.{has_program}
 use Rattle.m3_model.specs.SetupOpening.{opened_site}
 use Rattle.m3_trace.specs.ProgramEnds.{EndsLast}
-use Rattle.m3_machine.proofs.MachineSteps.{programmed_home}
 use Rattle.m3_machine.specs.MachineView.{ideal, placement}
 use Rattle.m3_machine.proofs.machine.Machine.recorder.Goals as goal
 
@@ -68,10 +67,8 @@ pub returns-clause-there : goal.returns-clause-there
 returns-clause-there g c = subst (λ w. HasPrograms (opened_site w.setup) w.initial) c.self.view_is c.self.invariant.there
 
 pub returns-clause-ends : goal.returns-clause-ends
-returns-clause-ends g c a has =
+returns-clause-ends g c a =
     let m = c.self.inside in
     let s = g.R.Recorder.setup m.recorder in
-    let own : has_program (opened_site s) a ≡ true = subst (λ w. has_program (opened_site w.setup) a ≡ true) (sym c.self.view_is) has in
-    subst (λ w. EndsLast (all_calls a (opening w.setup.memory w.setup.lines) w.entries)) c.self.view_is (
-    (c.self.invariant.trace.ends a (programmed_home (opened_site s) a own)).last
-    )
+    let es = g.R.Recorder.entries m.recorder in
+    subst (λ w. EndsLast (all_calls a (opening w.setup.memory w.setup.lines) w.entries)) c.self.view_is (ends_last s es m.engine.machine c.self.invariant.trace a)

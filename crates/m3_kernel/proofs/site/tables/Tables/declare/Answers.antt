@@ -2,7 +2,7 @@ use Rattle.std.proofs.Common.{List, map, ap, sym, ◌∙◌, refl, subst}
 use Rattle.std.proofs.lemmas.List.{map-append}
 use Rattle.m3_model.specs.Config.Site.{Home}
 use Rattle.m3_kernel.specs.HomeTableView.{value_of, home_with, AreHomeTables}
-use Rattle.m3_kernel.proofs.site.Site.declare.Goals as goal
+use Rattle.m3_kernel.proofs.site.tables.Tables.declare.Goals as goal
 
 pub invariant_of-self-2 : goal.invariant_of-self-2
 invariant_of-self-2 c =

@@ -1,7 +1,7 @@
 use Rattle.std.proofs.Common.{◌∙◌, ap, sym, rules}
 use Rattle.m3_base.specs.Setup.Rules.{is_programmed}
 use Rattle.m3_kernel.proofs.ProgrammedActs.{setup_program, some_program}
-use Rattle.m3_kernel.proofs.site.is_programmed.Goals as goal
+use Rattle.m3_kernel.proofs.site.tables.is_programmed.Goals as goal
 
 pub returns-in-Absent : goal.returns-in-Absent
 returns-in-Absent c = ap is_programmed (sym c.in-Absent.is ∙ c.program.ensures) ∙ setup_program c.args.act c.args.setup.now (search rules)

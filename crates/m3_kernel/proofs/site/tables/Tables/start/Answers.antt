@@ -1,7 +1,7 @@
 use Rattle.std.proofs.Common.{ap, map}
 use Rattle.m3_kernel.specs.HomeTableView.{value_of}
 use Rattle.m3_kernel.proofs.HomeTable.{none_declared}
-use Rattle.m3_kernel.proofs.site.Site.start.Goals as goal
+use Rattle.m3_kernel.proofs.site.tables.Tables.start.Goals as goal
 
 pub invariant_of-result : goal.invariant_of-result
 invariant_of-result c =

@@ -2,7 +2,7 @@ use Rattle.std.proofs.Common.{ap, not, ◌∙◌, rules}
 use Rattle.m3_model.specs.Config.Site.{home_has_program}
 use Rattle.m3_kernel.specs.HomeTableView.{home_tile, home_with}
 use Rattle.m3_kernel.proofs.HomeTable.{first_recorded, other_recorded}
-use Rattle.m3_kernel.proofs.site.record.Goals as goal
+use Rattle.m3_kernel.proofs.site.tables.record.Goals as goal
 
 pub returns-then-is_none-clause-tiles : goal.returns-then-is_none-clause-tiles
 returns-then-is_none-clause-tiles c =
