@@ -19,7 +19,6 @@ use Rattle.m3_laws.specs.JournalLaws.{AfterEach, KeepsLaws}
 use Rattle.m3_machine.specs.ProgramCalls.{AreCalled, HasPrograms, IsCalled, meanings_of}
 use Rattle.m3_machine.specs.MachineView.{MachineValue, ideal, placement}
 use Rattle.m3_machine.specs.ProgramTable.{program_table}
-use Rattle.m3_model.specs.Config.Site.{has_program}
 use Rattle.m3_model.specs.SetupOpening.{opened_site}
 use Rattle.m3_programs.specs.ItemMoves.{ItemMoves, meaning_of}
 use Rattle.m3_programs.specs.ListProgramView.{ListState}
@@ -30,7 +29,7 @@ use Rattle.m3_trace.specs.ProgramEnds.{EndsLast}
 use Rattle.m3_cmd.specs.ListMachines.{IsOf, IsOpened, setup_table}
 use Rattle.m3_cmd.specs.MachineRuns.{IsRunOf, start}
 use Rattle.m3_cmd.proofs.ListCalls.{calls_are_items}
-use Rattle.m3_cmd.proofs.ProgramActs.{program_is, programmed_declared, declared_program, has_programs}
+use Rattle.m3_cmd.proofs.ProgramActs.{program_is, has_programs}
 use Rattle.m3_cmd.proofs.ProgramTables.{pairs_same}
 use Rattle.m3_trace.specs.Invariant.{PlacementRun}
 
@@ -57,7 +56,7 @@ meaning_at (p ∷ ps) zero = refl
 meaning_at (p ∷ ps) (suc a) = meaning_at ps a
 
 pub items_made : (s : SetupValue) (entries : List Entry) (meanings : List (Option (List ℕ))) → IsValid s → AllListed s.lines
-    → ((a : ℕ) → has_program (opened_site s) a ≡ true → EndsLast (all_calls a (start s) entries))
+    → ((a : ℕ) → EndsLast (all_calls a (start s) entries))
     → AreCalled (λ (p : ListState). ItemMoves p.items) (setup_table s) (meanings_of meaning_of (setup_table s)) (λ a. all_calls a (start s) entries) meanings
     → (a : ℕ) → setup_has_program a s ≡ true → AreItems (program_items a s.lines) (program_calls s a entries)
 items_made s entries meanings valid listed ends called a has =
@@ -66,7 +65,7 @@ items_made s entries meanings valid listed ends called a has =
     let meant : get_or (meanings_of meaning_of (setup_table s)) a None ≡ Some (0 ∷ []) = meaning_at (setup_table s) a ∙ ap (option_map meaning_of) there in
     let one = subst (λ p. IsCalled (λ (q : ListState). ItemMoves q.items) p (Some (0 ∷ [])) (all_calls a (start s) entries) (get_or meanings a None)) there (
     subst (λ m. IsCalled (λ (q : ListState). ItemMoves q.items) (get_or (setup_table s) a None) m (all_calls a (start s) entries) (get_or meanings a None)) meant (called a)) in
-    let last = ends a (declared_program s a valid (programmed_declared s a valid listed has) ∙ has) in
+    let last = ends a in
     subst (λ f. AreItems items (calls_of f a (start s) entries)) (sym (no_fuel a s.lines listed))
     (calls_are_items items (all_calls a (start s) entries) last (called_reach items (all_calls a (start s) entries) (get_or meanings a None) one))
 
@@ -77,7 +76,7 @@ pub runs_of : (m : MachineValue ListState) → IsValid m.setup
     → PlacementRun (start m.setup) (placement_at_opening m.setup.lines) m.entries (placement m)
     → ((a : ℕ) → printed_replies a (start m.setup) m.entries ≡ ideal_replies a (start m.setup) (steps_in m.entries))
     → AfterEach (KeepsLaws (start m.setup)) m.entries
-    → ((a : ℕ) → has_program (opened_site m.setup) a ≡ true → EndsLast (all_calls a (start m.setup) m.entries))
+    → ((a : ℕ) → EndsLast (all_calls a (start m.setup) m.entries))
     → AreCalled (λ (p : ListState). ItemMoves p.items) m.initial (meanings_of meaning_of m.initial) (λ a. all_calls a (start m.setup) m.entries) m.meanings
     → (s : SetupValue) → IsOf s m → IsRunOf s m.entries (placement m)
 runs_of m valid run places replies laws ends called s of =
