@@ -14,7 +14,7 @@ use Rattle.m3_base.specs.Journal.Audit.{audit_lines}
 use Rattle.m3_base.specs.Lists.EachElement.{Each}
 use Rattle.m3_base.specs.Load.Setup.{load_setup}
 use Rattle.m3_base.specs.Load.Summary.{summary_lines}
-use Rattle.m3_journal.specs.JournalText.{audit_line, journal_text}
+use Rattle.m3_journal.specs.JournalText.{audit_line}
 use Rattle.m3_base.specs.Load.Summary.{SummaryLine}
 use Rattle.m3_load.specs.declared.summary.Summary.{Summary}
 use Rattle.m3_load.specs.SummaryLines.{lines_of, summary_line}
@@ -29,7 +29,8 @@ use Rattle.m3_cmd.specs.DriverContract.{EndsQuiet, IsAutoAnswer, IsDrivenJournal
 use Rattle.m3_cmd.specs.DrivenMachines.{IsDrivenBy, IsDrivenScript}
 use Rattle.m3_cmd.specs.ListMachines.{IsOf, IsOpened}
 use Rattle.m3_cmd.specs.MachineRuns.{IsRunOf}
-use Rattle.m3_cmd.specs.Statuses.{IsOneOf}
+use Rattle.m3_cmd.specs.OutputText.{output_text}
+use Rattle.m3_cmd.specs.declared.words.Format.{Format}
 use Rattle.m3_script.specs.declared.script.Mode.{Mode}
 use Rattle.m3_script.specs.ScriptText.{script_of}
 
@@ -118,11 +119,11 @@ orders_few os es are few = let n = orders_length os es are in omega (arith, n, f
 
 -- ---- the answer
 
-pub auto_answer : (bytes : List ℕ) (setup : SetupValue) (events : List Event) (quiet : Bool) (status : ℕ) (text : List ℕ) → script_of Mode.Auto 0 bytes ≡ Ok (record { setup = setup; events = events })
-    → status ≡ status_of quiet → IsDrivenScript setup events quiet text → IsAutoAnswer bytes status text
-auto_answer bytes setup events quiet status text spelled is d = by quiet is d
+pub auto_answer : (format : Format) (bytes : List ℕ) (setup : SetupValue) (events : List Event) (quiet : Bool) (status : ℕ) (text : List ℕ)
+    → script_of Mode.Auto 0 bytes ≡ Ok (record { setup = setup; events = events }) → status ≡ status_of quiet → IsDrivenScript format setup events quiet text → IsAutoAnswer format bytes status text
+auto_answer format bytes setup events quiet status text spelled is d = by quiet is d
   where
-    journal : (q : Bool) → IsDrivenScript setup events q text → IsDrivenJournalOf q bytes text
+    journal : (q : Bool) → IsDrivenScript format setup events q text → IsDrivenJournalOf format q bytes text
     journal q e = record {
       setup = setup;
       orders = e.orders;
@@ -130,7 +131,7 @@ auto_answer bytes setup events quiet status text spelled is d = by quiet is d
       is_text = e.is_text;
     }
 
-    by : (q : Bool) → status ≡ status_of q → IsDrivenScript setup events q text → IsAutoAnswer bytes status text
+    by : (q : Bool) → status ≡ status_of q → IsDrivenScript format setup events q text → IsAutoAnswer format bytes status text
     by true s e = inl (s, journal true e)
     by false s e = inr (inl (s, journal false e))
 
@@ -138,46 +139,18 @@ pub load_answer : (rounds : ℕ) (quiet : Bool) (status : ℕ) (text : List ℕ)
 load_answer rounds true status text is t = inl (is, t)
 load_answer rounds false status text is t = inr (is, t)
 
-pub no_fault : (quiet : Bool) (status : ℕ) → status ≡ status_of quiet → status ≢ 4
-no_fault true status is e = let no : 0 ≡ 4 = sym is ∙ e in cc
-no_fault false status is e = let no : 6 ≡ 4 = sym is ∙ e in cc
-
-no_want : (quiet : Bool) (status : ℕ) → status ≡ status_of quiet → status ≢ 5
-no_want true status is e = let no : 0 ≡ 5 = sym is ∙ e in cc
-no_want false status is e = let no : 6 ≡ 5 = sym is ∙ e in cc
-
--- what is written with a run's status isn't the want of memory
-pub no_memory : {A : Type 0} (quiet : Bool) (status result : ℕ) → status ≡ status_of quiet → (result ≢ 4 → result ≡ status) → result ≡ 5 → A
-no_memory quiet status result is written five =
-    absurd (no_want quiet status is (sym (written (λ four. let no : 5 ≡ 4 = sym five ∙ four in cc)) ∙ five))
-
-pub run_statuses : (quiet : Bool) (status result : ℕ) → status ≡ status_of quiet → (result ≢ 4 → result ≡ status) → IsOneOf (0 ∷ 4 ∷ 5 ∷ 6 ∷ []) result
-run_statuses quiet status result is written =
-    ⊎_elim (λ (four : result ≡ 4). inr (inl four)) (λ (other : result ≡ 4 → ⊥). by quiet (written other ∙ is)) (cases_eq result 4)
-  where
-    by : (q : Bool) → result ≡ status_of q → IsOneOf (0 ∷ 4 ∷ 5 ∷ 6 ∷ []) result
-    by true e = inl e
-    by false e = inr (inr (inr (inl e)))
-
-pub auto_statuses : (quiet : Bool) (status result : ℕ) → status ≡ status_of quiet → (result ≢ 4 → result ≡ status) → IsOneOf (0 ∷ 2 ∷ 4 ∷ 5 ∷ 6 ∷ []) result
-auto_statuses quiet status result is written = by (run_statuses quiet status result is written)
-  where
-    by : IsOneOf (0 ∷ 4 ∷ 5 ∷ 6 ∷ []) result → IsOneOf (0 ∷ 2 ∷ 4 ∷ 5 ∷ 6 ∷ []) result
-    by (inl e) = inl e
-    by (inr e) = inr (inr e)
-
 -- ---- the texts
 
-pub driven_script : (s : SetupValue) (events : List Event) (orders : List Order) (quiet : Bool) (m : MachineValue ListState) (text : List ℕ) → map Event.Order orders ≡ events
+pub driven_script : (format : Format) (s : SetupValue) (events : List Event) (orders : List Order) (quiet : Bool) (m : MachineValue ListState) (text : List ℕ) → map Event.Order orders ≡ events
     → IsDrivenBy s orders quiet m → ((setup : SetupValue) → IsOf setup m → IsRunOf setup m.entries (placement m))
-    → text ≡ journal_text m.setup m.entries (audit_lines m.setup.tiles (ideal m) (placement m) m.left) → IsDrivenScript s events quiet text
-driven_script s events orders quiet m text are d runs is = record {
+    → text ≡ output_text format m.setup m.entries (audit_lines m.setup.tiles (ideal m) (placement m) m.left) → IsDrivenScript format s events quiet text
+driven_script format s events orders quiet m text are d runs is = record {
   orders = orders;
   are = are;
   is_text = record {
     entries = m.entries;
     run = run_is s orders quiet m d runs;
-    is_text = closing_text (λ x lines. journal_text x m.entries lines) s orders quiet m text d is;
+    is_text = closing_text (λ x lines. output_text format x m.entries lines) s orders quiet m text d is;
   };
 }
 

@@ -6,22 +6,24 @@ use Rattle.std.proofs.lemmas.List.{map-append}
 use Rattle.std.proofs.lemmas.List.Elements.{All-tail}
 use Rattle.m3_base.specs.declared.event.Event.{Event}
 use Rattle.m3_base.specs.declared.event.Entry.{Entry}
+use Rattle.m3_base.specs.declared.journal.AuditLine.{AuditLine}
 use Rattle.m3_base.specs.declared.order.Order.{Order}
 use Rattle.m3_base.specs.Ideal.State.{State}
 use Rattle.m3_base.specs.Journal.Audit.{audit_lines}
 use Rattle.m3_base.specs.Journal.Entry.{state_after_entries}
 use Rattle.m3_base.specs.Setup.Rules.{SetupValue, IsValid}
 use Rattle.m3_base.specs.DriverRun.Configuration.{orders_after}
-use Rattle.m3_journal.specs.JournalText.{journal_text}
 use Rattle.m3_machine.specs.MachineStep.{IsStep}
 use Rattle.m3_machine.specs.MachineView.{MachineValue, ideal, placement}
 use Rattle.m3_programs.specs.ItemMoves.{ItemMoves}
 use Rattle.m3_programs.specs.ListProgramView.{ListState}
 use Rattle.m3_script.specs.Rules.{AllBuilt, AllInRanges, AllNamed, IsBuilt, IsInRanges, names_undeclared, is_absent, has_program}
 use Rattle.m3_trace.specs.JournalEntry.{entry}
-use Rattle.m3_cmd.specs.ListMachines.{AreMakeable, Follows, IsMakeable, IsOf, IsOpened, event_of}
+use Rattle.m3_cmd.specs.ListMachines.{AreMakeable, Follows, HasMade, IsMakeable, IsOf, IsOpened, event_of}
 use Rattle.m3_cmd.specs.MachineRuns.{IsRunOf, start}
+use Rattle.m3_cmd.specs.OutputText.{output_text}
 use Rattle.m3_cmd.specs.RunContract.{IsTextOf}
+use Rattle.m3_cmd.specs.declared.words.Format.{Format}
 use Rattle.m3_cmd.proofs.ProgramActs.{declared_program}
 
 -- ---- step by step
@@ -78,21 +80,30 @@ makeable_all s es valid named ranges built k d within =
 
 -- ---- from the opening
 
-pub text_is : (s : SetupValue) (es : List Event) (text : List ℕ) (first last : MachineValue ListState) → IsOpened s [] first → Follows first es last
-    → text ≡ journal_text last.setup last.entries (audit_lines last.setup.tiles (ideal last) (placement last) last.left)
+pub has_made : (s : SetupValue) (es : List Event) (first last : MachineValue ListState) → IsOpened s [] first → Follows first es last → HasMade s es last
+has_made s es first last o f = record {
+  of = record { setup_is = f.same ∙ o.of.setup_is; initial = f.initial ∙ o.of.initial; listed = o.of.listed };
+  follows = ap (map event_of) (f.added ∙ ap (λ (xs : List Entry). xs ++ f.made) o.entries) ∙ f.follows;
+  none_left = f.none_left o.left;
+}
+
+-- the same text, of the setup and of what the entries reach
+text_from_opening : (f : SetupValue → List Entry → List AuditLine → List ℕ) (s : SetupValue) (text : List ℕ) (last : MachineValue ListState) → last.setup ≡ s → last.left ≡ []
+    → state_after_entries (start last.setup) last.entries ≡ ideal last → text ≡ f last.setup last.entries (audit_lines last.setup.tiles (ideal last) (placement last) last.left)
+    → text ≡ f s last.entries (audit_lines s.tiles (state_after_entries (start s) last.entries) (placement last) [])
+text_from_opening f s text last same left reaches is =
+    is ∙ ap (λ (os : List Order). f last.setup last.entries (audit_lines last.setup.tiles (ideal last) (placement last) os)) left
+    ∙ ap (λ (x : State). f last.setup last.entries (audit_lines last.setup.tiles x (placement last) [])) (sym reaches)
+    ∙ ap (λ (x : SetupValue). f x last.entries (audit_lines x.tiles (state_after_entries (start x) last.entries) (placement last) [])) same
+
+pub text_is : (format : Format) (s : SetupValue) (es : List Event) (text : List ℕ) (last : MachineValue ListState) → HasMade s es last
+    → text ≡ output_text format last.setup last.entries (audit_lines last.setup.tiles (ideal last) (placement last) last.left)
     → state_after_entries (start last.setup) last.entries ≡ ideal last
-    → ((setup : SetupValue) → IsOf setup last → IsRunOf setup last.entries (placement last)) → IsTextOf s es text
-text_is s es text first last o f is reaches runs =
-    let same : last.setup ≡ s = f.same ∙ o.of.setup_is in
-    let of : IsOf s last = record { setup_is = same; initial = f.initial ∙ o.of.initial; listed = o.of.listed } in
-    let left : last.left ≡ [] = f.none_left o.left in
-    record {
-      entries = last.entries;
-      last = placement last;
-      follows = ap (map event_of) (f.added ∙ ap (λ (xs : List Entry). xs ++ f.made) o.entries) ∙ f.follows;
-      runs = runs s of;
-      is_text =
-          is ∙ ap (λ (os : List Order). journal_text last.setup last.entries (audit_lines last.setup.tiles (ideal last) (placement last) os)) left
-          ∙ ap (λ (x : State). journal_text last.setup last.entries (audit_lines last.setup.tiles x (placement last) [])) (sym reaches)
-          ∙ ap (λ (x : SetupValue). journal_text x last.entries (audit_lines x.tiles (state_after_entries (start x) last.entries) (placement last) [])) same;
-    }
+    → ((setup : SetupValue) → IsOf setup last → IsRunOf setup last.entries (placement last)) → IsTextOf format s es text
+text_is format s es text last h is reaches runs = record {
+  entries = last.entries;
+  last = placement last;
+  follows = h.follows;
+  runs = runs s h.of;
+  is_text = text_from_opening (λ x entries lines. output_text format x entries lines) s text last h.of.setup_is h.none_left reaches is;
+}

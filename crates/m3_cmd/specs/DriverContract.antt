@@ -12,11 +12,12 @@ use Rattle.m3_base.specs.Setup.Rules.{SetupValue}
 use Rattle.m3_load.specs.SummaryLines.{summary_line}
 use Rattle.m3_script.specs.declared.script.Mode.{Mode}
 use Rattle.m3_script.specs.ScriptText.{script_of}
-use Rattle.m3_journal.specs.JournalText.{audit_line, journal_text}
+use Rattle.m3_journal.specs.JournalText.{audit_line}
 use Rattle.m3_text.specs.Printing.{text_of_lines}
 use Rattle.m3_cmd.specs.MachineRuns.{IsRunOf}
-use Rattle.m3_cmd.specs.RunContract.{IsNoScript}
-use Rattle.m3_cmd.specs.Statuses.{bad_script_line}
+use Rattle.m3_cmd.specs.OutputText.{output_text}
+use Rattle.m3_cmd.specs.RunContract.{IsBadScript}
+use Rattle.m3_cmd.specs.declared.words.Format.{Format}
 
 -- ---- the driver's runs
 
@@ -37,25 +38,25 @@ pub record IsDrivenRun (setup : SetupValue) (orders : List Order) (quiet : Bool)
 
 -- the text is that of a journal of this setup, whose entries the driver made; the lines that close it are those of what
 -- they reach
-pub record IsDrivenTextOf (setup : SetupValue) (orders : List Order) (quiet : Bool) (text : List ℕ) : Type 0 where
+pub record IsDrivenTextOf (format : Format) (setup : SetupValue) (orders : List Order) (quiet : Bool) (text : List ℕ) : Type 0 where
   pub entries : List Entry
   pub run : IsDrivenRun setup orders quiet entries
-  pub is_text : text ≡ journal_text setup entries (closing_lines setup orders entries)
+  pub is_text : text ≡ output_text format setup entries (closing_lines setup orders entries)
 
 -- the text is that of a journal of the script's setup and orders
-pub record IsDrivenJournalOf (quiet : Bool) (bytes text : List ℕ) : Type 0 where
+pub record IsDrivenJournalOf (format : Format) (quiet : Bool) (bytes text : List ℕ) : Type 0 where
   pub setup : SetupValue
   pub orders : List Order
   pub spelled : script_of Mode.Auto 0 bytes ≡ Ok (record { setup = setup; events = map Event.Order orders })
-  pub is_text : IsDrivenTextOf setup orders quiet text
+  pub is_text : IsDrivenTextOf format setup orders quiet text
 
 -- with 0 and 6 the journal of the script that the bytes are, which ends quiet with 0, and with 6 at as many entries as
--- its budget; with 2 that they are none
-abbrev pub IsAutoAnswer : List ℕ → ℕ → List ℕ → Type 0
-IsAutoAnswer bytes status text =
-    ((status ≡ 0) × IsDrivenJournalOf true bytes text)
-    ⊎ (((status ≡ 6) × IsDrivenJournalOf false bytes text)
-    ⊎ ((status ≡ 2) × IsNoScript Mode.Auto bytes × (text ≡ bad_script_line)))
+-- its budget; with 2 the first bad line of bytes that are none
+abbrev pub IsAutoAnswer : Format → List ℕ → ℕ → List ℕ → Type 0
+IsAutoAnswer format bytes status text =
+    ((status ≡ 0) × IsDrivenJournalOf format true bytes text)
+    ⊎ (((status ≡ 6) × IsDrivenJournalOf format false bytes text)
+    ⊎ ((status ≡ 2) × IsBadScript Mode.Auto bytes text))
 
 -- ---- load
 

@@ -52,3 +52,9 @@ pub record Follows (old : MachineValue ListState) (events : List Event) (new : M
   pub made : List Entry
   pub added : new.entries ≡ old.entries ++ made
   pub follows : map event_of made ≡ events
+
+-- a machine of this setup made these events, from its opening, and no order is left
+pub record HasMade (setup : SetupValue) (events : List Event) (m : MachineValue ListState) : Type 0 where
+  pub of : IsOf setup m
+  pub follows : map event_of m.entries ≡ events
+  pub none_left : m.left ≡ []

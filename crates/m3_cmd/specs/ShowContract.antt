@@ -6,7 +6,8 @@ use Rattle.m3_journal.specs.Packets.{packet_words}
 use Rattle.m3_wire.specs.Grammar.{IsFirst, IsRead, Refuses, TakesNone}
 use Rattle.m3_wire.specs.Packets.{IsPacket, packet_part}
 use Rattle.m3_wire.specs.declared.refusal.WireRefusal.{WireRefusal}
-use Rattle.m3_cmd.specs.Statuses.{most_bytes}
+use Rattle.m3_cmd.specs.CommandLine.{limit_of}
+use Rattle.m3_cmd.specs.declared.words.InputForm.{InputForm}
 use Rattle.m3_cmd.specs.declared.show.ShowRefusal.{ShowRefusal}
 
 -- the bytes are the spellings of these packets, one after the other
@@ -86,7 +87,7 @@ refused_after before WireRefusal.NoMemory = ShowRefusal.NoMemory
 -- the refused byte is one of the most that are read, or their end
 abbrev pub IsNamed : ShowRefusal → Type 0
 IsNamed ShowRefusal.NoMemory = ⊤
-IsNamed (ShowRefusal.Bad before refusal) = before + place_of refusal ≤ most_bytes
+IsNamed (ShowRefusal.Bad before refusal) = before + place_of refusal ≤ limit_of InputForm.Show
 
 -- with 2 the line of bytes that aren't shown
 abbrev pub IsRefusalLine : ShowRefusal → ℕ → List ℕ → Type 0

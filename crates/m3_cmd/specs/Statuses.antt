@@ -13,12 +13,6 @@ read_fault_line = line_of (codes "read fault")
 abbrev pub too_long_line : List ℕ
 too_long_line = line_of (codes "too long")
 
-abbrev pub bad_script_line : List ℕ
-bad_script_line = line_of (codes "bad script")
-
-abbrev pub most_bytes : ℕ
-most_bytes = 1048576
-
 -- what holds of a source's bytes, where it tells them
 abbrev pub OfBytes : Option (List ℕ) → (List ℕ → Type 0) → Type 0
 OfBytes None P = Unit {0}

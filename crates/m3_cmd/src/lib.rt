@@ -3,9 +3,11 @@
 
 mod auto;
 mod budget;
+mod check;
 mod events;
 mod load;
 mod machines;
+mod output;
 mod run;
 mod show;
 mod top;

@@ -1,19 +1,15 @@
-//! The load is run by the driver, and its summary written.
+//! The load is run by the driver, and its summary is the answer.
 
-ghost use Rattle.std.specs.Prelude.{◌≡◌, ◌≢◌, ◌∷◌, [], IfOk};
-ghost use Rattle.m3_base.specs.Io.Streams.{Rose};
+ghost use Rattle.std.specs.Prelude.{IfOk};
 ghost use Rattle.m3_base.specs.Limits.{Within};
 ghost use Rattle.m3_cmd.specs.DriverContract.{IsLoadAnswer, IsLoadTextOf};
-ghost use Rattle.m3_cmd.specs.Statuses.{IsOneOf};
-ghost use Rattle.m3_cmd.specs.Writing.{WritesAll, WritesAtMost, WritesSome};
 
 use crate::auto::{drive, status_of};
 use crate::machines::summary_text;
-use crate::top::write_output;
-use m3_base::stream::Sink;
+use crate::output::Output;
 use m3_load::load_setup;
 use m3_machine::refusal::StepRefusal;
-use std::alloc::Global;
+use std::alloc::{AllocError, Global};
 
 /// The summary of the journal that the driver makes of the load of so many rounds, and whether it has nothing more to do.
 fn load_to_text(alloc: Global, rounds: u16) -> Result<(Vec<u8>, bool), StepRefusal>
@@ -25,20 +21,16 @@ fn load_to_text(alloc: Global, rounds: u16) -> Result<(Vec<u8>, bool), StepRefus
     Ok((summary_text(alloc, rounds, &machine)?, quiet))
 }
 
-/// Runs the load of so many rounds, 1 to 500, and writes its summary.
-pub fn run_load<K: Sink>(alloc: Global, rounds: u16, sink: &mut K) -> u8
+/// The summary of the load of so many rounds, 1 to 500.
+pub fn run_load(alloc: Global, rounds: u16) -> Result<Output, AllocError>
     requires { Within 1 500 rounds }
-    ensures output { result ≢ 4 → result ≢ 5 →
-        WritesAll (IsLoadAnswer rounds result) (K.written sink.old) (K.written sink.new) }
-    ensures write { result ≡ 4 → Rose (K.faults sink.old) (K.faults sink.new) }
-    ensures prefix { result ≡ 4 →
-        WritesSome (IsLoadAnswer rounds) (K.written sink.old) (K.written sink.new) }
-    ensures memory { result ≡ 5 →
-        WritesAtMost (IsLoadAnswer rounds) (K.written sink.old) (K.written sink.new) }
-    ensures statuses { IsOneOf (0 ∷ 4 ∷ 5 ∷ 6 ∷ []) result }
+    ensures { IfOk result (λ o. IsLoadAnswer rounds o.status o.text.items) }
 {
     match load_to_text(alloc, rounds) {
-        Err(_) => 5,
-        Ok((text, quiet)) => write_output(sink, text.as_slice(), status_of(quiet)),
+        Err(_) => Err(AllocError),
+        Ok((text, quiet)) => Ok(Output {
+            status: status_of(quiet),
+            text,
+        }),
     }
 }

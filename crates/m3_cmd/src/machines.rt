@@ -7,7 +7,7 @@ ghost use Rattle.m3_base.specs.Journal.Entry.{state_after_entries};
 ghost use Rattle.m3_base.specs.Lists.EachElement.{Each};
 ghost use Rattle.m3_base.specs.Setup.Rules.{SetupValue, IsValid};
 ghost use Rattle.m3_base.specs.Load.Summary.{summary_lines};
-ghost use Rattle.m3_journal.specs.JournalText.{audit_line, journal_text};
+ghost use Rattle.m3_journal.specs.JournalText.{audit_line};
 ghost use Rattle.m3_load.specs.SummaryLines.{summary_line};
 ghost use Rattle.m3_text.specs.Printing.{text_of_lines};
 ghost use Rattle.m3_machine.specs.EventNames.{NamesActs};
@@ -15,11 +15,14 @@ ghost use Rattle.m3_machine.specs.MachineView.{ideal, placement};
 ghost use Rattle.m3_script.specs.Rules.{AllListed};
 ghost use Rattle.m3_cmd.specs.ListMachines.{IsOf, IsOpened};
 ghost use Rattle.m3_cmd.specs.MachineRuns.{IsRunOf, start};
+ghost use Rattle.m3_cmd.specs.OutputText.{output_text};
 
-use m3_base::journal::Journal;
+use crate::words::Format;
+use m3_base::journal::{Audit, Journal};
 use m3_base::order::Order;
 use m3_base::setup::Setup;
 use m3_journal::{print, put_audit};
+use m3_journal_json::to_json;
 use m3_load::{put_summary, summary_of};
 use m3_machine::machine::Machine;
 use m3_machine::recorder::JournalRecorder;
@@ -52,19 +55,40 @@ pub fn journal_of(machine: &Machine<ListProgram, JournalRecorder>) -> &Journal
     machine.recorder().journal()
 }
 
+/// A journal with its audit, as lines or as JSON in one line.
+#[tactic(auto, unfolding(crate::specs::OutputText::output_text))]
+fn output_text(
+    alloc: Global,
+    format: Format,
+    journal: &Journal,
+    audit: &Audit,
+) -> Result<Vec<u8>, AllocError>
+    ensures { IfOk result (λ v. v.items ≡ output_text format journal.now.setup journal.now.entries.items audit.now.lines.items) }
+{
+    match format {
+        Format::Text => print(alloc, journal, audit),
+        Format::Json => {
+            let mut out = to_json(alloc, journal, audit)?;
+            out.push(b'\n')?;
+            Ok(out)
+        }
+    }
+}
+
 /// The text of a machine's journal.
 pub fn journal_text(
     alloc: Global,
+    format: Format,
     machine: &Machine<ListProgram, JournalRecorder>,
 ) -> Result<Vec<u8>, AllocError>
-    ensures text { IfOk result (λ v. v.items ≡ journal_text machine.now.setup machine.now.entries
+    ensures text { IfOk result (λ v. v.items ≡ output_text format machine.now.setup machine.now.entries
         (audit_lines machine.now.setup.tiles (ideal machine.now) (placement machine.now) machine.now.left)) }
     ensures reaches { state_after_entries (start machine.now.setup) machine.now.entries ≡ ideal machine.now }
     ensures runs { (setup : SetupValue) → IsOf setup machine.now → IsRunOf setup machine.now.entries (placement machine.now) }
 {
     let journal = journal_of(machine);
     let audit = machine.audit(alloc)?;
-    print(alloc, journal, &audit)
+    output_text(alloc, format, journal, &audit)
 }
 
 /// The summary of a machine's journal as that of a load of so many rounds, and its audit.

@@ -1,15 +1,13 @@
 //! Packets are shown as lines.
 
-ghost use Rattle.std.specs.Prelude.{◌≡◌, ◌≢◌, ◌+◌, ◌<◌, ◌≤◌, ◌∷◌, ◌++◌, [], length, IfOk, IfErr, OnOk, string_bytes};
-ghost use Rattle.m3_base.specs.Io.Streams.{Rose};
+ghost use Rattle.std.specs.Prelude.{◌≡◌, ◌+◌, ◌≤◌, ◌∷◌, ◌++◌, [], length, IfOk, IfErr, OnOk, string_bytes};
 ghost use Rattle.m3_cmd.specs.declared.show.ShowRefusal.TheVariants as ShowRefusal;
-ghost use Rattle.m3_cmd.specs.Statuses.{IsOneOf, most_bytes};
+ghost use Rattle.m3_cmd.specs.declared.words.InputForm.{InputForm as InputFormValue};
+ghost use Rattle.m3_cmd.specs.CommandLine.{limit_of};
 ghost use Rattle.m3_cmd.specs.ShowContract.{IsNamed, IsNext, IsNone, IsRefusalLine, IsShowAnswer, IsShown, IsWhy, bad_byte_line, kind_word, packet_line, place_of, refused_after};
-ghost use Rattle.m3_cmd.specs.Writing.{WritesAll, WritesAtMost, WritesSome};
 
-use crate::top::write_output;
+use crate::output::Output;
 use m3_base::packet::Packet;
-use m3_base::stream::Sink;
 use m3_journal::put_packet;
 use m3_wire::{WireRefusal, decode_packet};
 use std::alloc::{AllocError, Global};
@@ -96,7 +94,7 @@ fn kind_word(refusal: WireRefusal) -> &'static str
 
 /// The line that names the refused byte, where so many bytes stand before those that are refused.
 fn bad_byte_line(alloc: Global, before: usize, refusal: WireRefusal) -> Result<String, AllocError>
-    requires { before + place_of refusal ≤ most_bytes }
+    requires { before + place_of refusal ≤ limit_of InputFormValue.Show }
     ensures { IfOk result (λ s. string_bytes s ≡ bad_byte_line before refusal) }
 {
     let at = before + place(refusal);
@@ -106,41 +104,33 @@ fn bad_byte_line(alloc: Global, before: usize, refusal: WireRefusal) -> Result<S
     Ok(out)
 }
 
-/// Writes the line of bytes that aren't shown.
-fn refuse<K: Sink>(alloc: Global, why: ShowRefusal, sink: &mut K) -> u8
+/// The line of bytes that aren't shown.
+fn refused(alloc: Global, why: ShowRefusal) -> Result<Output, AllocError>
     requires { IsNamed why }
-    ensures output { result ≢ 4 → result ≢ 5 →
-        WritesAll (IsRefusalLine why result) (K.written sink.old) (K.written sink.new) }
-    ensures write { result ≡ 4 → Rose (K.faults sink.old) (K.faults sink.new) }
-    ensures prefix { result ≡ 4 →
-        WritesSome (IsRefusalLine why) (K.written sink.old) (K.written sink.new) }
-    ensures memory { result ≡ 5 →
-        WritesAtMost (IsRefusalLine why) (K.written sink.old) (K.written sink.new) }
-    ensures statuses { IsOneOf (2 ∷ 4 ∷ 5 ∷ []) result }
+    ensures { IfOk result (λ o. IsRefusalLine why o.status o.text.items) }
 {
     match why {
-        ShowRefusal::NoMemory => 5,
-        ShowRefusal::Bad { before, refusal } => match bad_byte_line(alloc, before, refusal) {
-            Err(_) => 5,
-            Ok(text) => write_output(sink, text.as_bytes(), 2),
-        },
+        ShowRefusal::NoMemory => Err(AllocError),
+        ShowRefusal::Bad { before, refusal } => {
+            let line = bad_byte_line(alloc, before, refusal)?;
+            Ok(Output {
+                status: 2,
+                text: line.into_bytes(),
+            })
+        }
     }
 }
 
-/// Shows the packets that these bytes are, or writes the first byte that is bad.
-pub fn show_input<K: Sink>(alloc: Global, bytes: &[u8], sink: &mut K) -> u8
-    requires { length bytes.now ≤ most_bytes }
-    ensures output { result ≢ 4 → result ≢ 5 →
-        WritesAll (IsShowAnswer bytes.now result) (K.written sink.old) (K.written sink.new) }
-    ensures write { result ≡ 4 → Rose (K.faults sink.old) (K.faults sink.new) }
-    ensures prefix { result ≡ 4 →
-        WritesSome (IsShowAnswer bytes.now) (K.written sink.old) (K.written sink.new) }
-    ensures memory { result ≡ 5 →
-        WritesAtMost (IsShowAnswer bytes.now) (K.written sink.old) (K.written sink.new) }
-    ensures statuses { IsOneOf (0 ∷ 2 ∷ 4 ∷ 5 ∷ []) result }
+/// The lines of the packets that these bytes are, or that of the first byte that is bad.
+pub fn show_packets(alloc: Global, bytes: &[u8]) -> Result<Output, AllocError>
+    requires { length bytes.now ≤ limit_of InputFormValue.Show }
+    ensures { IfOk result (λ o. IsShowAnswer bytes.now o.status o.text.items) }
 {
     match lines_of(alloc, bytes) {
-        Err(why) => refuse(alloc, why, sink),
-        Ok(text) => write_output(sink, text.as_bytes(), 0),
+        Err(why) => refused(alloc, why),
+        Ok(text) => Ok(Output {
+            status: 0,
+            text: text.into_bytes(),
+        }),
     }
 }

@@ -9,5 +9,5 @@ drive-requires-clause-orders c = orders_named c.args.script.setup c.in_ok-orders
 
 pub returns : goal.returns
 returns c =
-    driven_script c.args.script.setup c.args.script.events.items c.in_ok-orders.orders.items c.in_ok-machine.quiet c.in_ok-machine.machine c.in_ok-journal_text.field-0.items
+    driven_script c.args.format c.args.script.setup c.args.script.events.items c.in_ok-orders.orders.items c.in_ok-machine.quiet c.in_ok-machine.machine c.in_ok-journal_text.field-0.items
     c.in_ok-orders.ensures c.in_ok-machine.ensures c.journal_text.ensures.runs c.in_ok-journal_text.ensures.text
