@@ -1,35 +1,27 @@
-//! What is written, and the status, for words that are no form, for input that is too long, and where an end fails.
+//! What is written, and the status, for input that is too long, and where an end fails.
 
 use crate::runs::{expect_written, words_of};
 use m3_base::memory_streams::{BytesSink, BytesSource, InfallibleSink};
 use m3_cmd::run_words;
 use std::alloc::AllocError;
 
-const USAGE: &[u8] =
-    b"usage: m3x run [--json] | auto [--json] | tiles [--json] | check | show | load N\n";
-
 /// A message from activity 0 to activity 1.
 const SCRIPT: &[u8] =
     b"machine tiles 4 memory 4096\nact 0 tile 2\nact 1 tile 3\nrecv 1 0 slots 2 size 16\nsend 0 0 of 1 label 7 credits 2\nbegin\ndo 0 send 0 6869\ntake 3 2\ntake 2 3\ndo 1 fetch 0\n";
 
-#[test]
-fn usage(rt: HostRuntime) -> Result<(), AllocError> {
-    let alloc = rt.alloc();
-    let input = Vec::from_slice(alloc, SCRIPT)?;
-    expect_written(&rt, alloc, &["run", "fast"], input, 1, USAGE)?;
-    expect_written(&rt, alloc, &[], Vec::new(alloc), 1, USAGE)
-}
-
+/// The limit itself isn't too long: a line of letters is no line. A journal may be longer than a script.
 #[test]
 fn too_long(rt: HostRuntime) -> Result<(), AllocError> {
     let alloc = rt.alloc();
-    for (count, status, written) in [
-        (1_048_576, 2, b"bad script\n".as_slice()),
-        (1_048_577, 8, b"too long\n".as_slice()),
+    for (word, count, status, written) in [
+        ("run", 1_048_576, 2, b"bad line 1: form\n".as_slice()),
+        ("run", 1_048_577, 8, b"too long\n".as_slice()),
+        ("auto", 1_048_577, 8, b"too long\n"),
+        ("check", 1_048_577, 2, b"bad line 1: form\n"),
     ] {
         let mut input = Vec::new(alloc);
         input.resize(count, b'a')?;
-        expect_written(&rt, alloc, &["run"], input, status, written)?;
+        expect_written(&rt, alloc, &[word], input, status, written)?;
     }
     Ok(())
 }

@@ -2,7 +2,17 @@
 #![tactic(auto)]
 
 #[cfg(test)]
+mod bad_journals;
+#[cfg(test)]
+mod bad_lines;
+#[cfg(test)]
+mod command_line;
+#[cfg(test)]
 mod ends;
+#[cfg(test)]
+mod grant_verdicts;
+#[cfg(test)]
+mod json_journals;
 #[cfg(test)]
 mod memory;
 #[cfg(test)]
@@ -19,3 +29,7 @@ mod sends;
 mod showing;
 #[cfg(test)]
 mod switching;
+#[cfg(test)]
+mod verdicts;
+#[cfg(test)]
+mod words;

@@ -1,6 +1,6 @@
 //! Programs: turns under `run`, the driver under `auto`, and the load.
 
-use crate::runs::{expect_written, words_of};
+use crate::runs::{expect_journal, expect_written, words_of};
 use m3_base::memory_streams::{BytesSource, InfallibleSink};
 use m3_cmd::run_words;
 use std::alloc::AllocError;
@@ -23,7 +23,7 @@ fn a_program_yields_after_its_quantum(rt: HostRuntime) -> Result<(), AllocError>
     written.extend_from_slice(
         b"begin\nturn 1: idle not-current\nturn 0 fetch 0: none\nturn 0 quantum: yield\ntake 0 2: yielded 0\nturn 0 await 0: asleep\nturn 0: idle waiting\nend\naudit tile 2 act 0\naudit flights 0\naudit quiet no\n",
     )?;
-    expect_written(&rt, rt.alloc(), &["run"], input, 0, written.as_slice())
+    expect_journal(&rt, rt.alloc(), "run", input, written, 6)
 }
 
 /// The driver brings the message over by way of the kernel, and ends quiet.
@@ -36,25 +36,7 @@ fn the_driver_runs_two_programs_on_one_tile(rt: HostRuntime) -> Result<(), Alloc
     written.extend_from_slice(
         b"begin\nturn 0 send 0 2a: flying 0.1\ntake 2 2: bounced 0.1\ntake 0 2: held 0.1 1\ntend 1: landed 0.1\ntake 2 0: answered 0.1 sent\nturn 0 end: ended\ntake 0 2: yielded 0\nswitch 2 1: save 0\ntake 2 0: saving 0\ntake 0 2: saved 0 restore 1\ntake 2 0: current 1\nturn 1 await 0: awake\nturn 1 fetch 0: message 0 from 0 label 5 2a\nturn 1 end: ended\ntake 0 2: yielded 1\nend\naudit credit 2 held 0 flying 0 queued 1 limit 1\naudit tile 2 act 1\naudit flights 0\naudit quiet yes\n",
     )?;
-    expect_written(&rt, rt.alloc(), &["auto"], input, 0, written.as_slice())
-}
-
-/// Only orders follow `begin` in a script for the driver.
-#[test]
-fn a_script_for_the_driver_has_orders_alone(rt: HostRuntime) -> Result<(), AllocError> {
-    for line in [
-        "turn 0\n",
-        "take 2 2\n",
-        "close\n",
-        "do 0 fetch 0\n",
-        "prog 0 fetch 0\n",
-    ] {
-        let mut input = Vec::from_slice(rt.alloc(), PAIR)?;
-        input.extend_from_slice(b"begin\n")?;
-        input.extend_from_slice(line.as_bytes())?;
-        expect_written(&rt, rt.alloc(), &["auto"], input, 2, b"bad script\n")?;
-    }
-    Ok(())
+    expect_journal(&rt, rt.alloc(), "auto", input, written, 15)
 }
 
 /// An order comes before a switch of the kernel's own, and its outcome is an entry.
@@ -68,7 +50,7 @@ fn the_driver_carries_out_the_script_s_orders(rt: HostRuntime) -> Result<(), All
     written.extend_from_slice(
         b"begin\nrevoke 2: refused no-grant\nend\naudit tile 2 act 0\naudit flights 0\naudit quiet yes\n",
     )?;
-    expect_written(&rt, rt.alloc(), &["auto"], input, 0, written.as_slice())
+    expect_journal(&rt, rt.alloc(), "auto", input, written, 1)
 }
 
 /// Each round's four messages and four replies are fetched, and all credits come back. The source isn't read.
@@ -129,25 +111,4 @@ fn the_summary_of_two_rounds(rt: HostRuntime) -> Result<(), AllocError> {
         0,
         written.as_slice(),
     )
-}
-
-/// A load has 1 to 500 rounds, decimal without a needless zero in front.
-#[test]
-fn a_load_needs_its_number(rt: HostRuntime) -> Result<(), AllocError> {
-    let usage =
-        b"usage: m3x run [--json] | auto [--json] | tiles [--json] | check | show | load N\n".as_slice();
-    for words in [
-        ["load", "0"].as_slice(),
-        ["load", "501"].as_slice(),
-        ["load", "01"].as_slice(),
-        ["load", ""].as_slice(),
-        ["load", "1x"].as_slice(),
-        ["load", "18446744073709551617"].as_slice(),
-        ["load"].as_slice(),
-        ["load", "1", "1"].as_slice(),
-        ["auto", "1"].as_slice(),
-    ] {
-        expect_written(&rt, rt.alloc(), words, Vec::new(rt.alloc()), 1, usage)?;
-    }
-    Ok(())
 }

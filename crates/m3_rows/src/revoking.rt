@@ -1,6 +1,6 @@
 //! Grants that are made and revoked while the machine runs.
 
-use crate::runs::{expect_run, expect_written};
+use crate::runs::expect_run;
 use std::alloc::AllocError;
 
 /// Activity 0 sends to activity 1.
@@ -302,33 +302,4 @@ fn a_revoke_reaches_an_absent_holder(rt: HostRuntime) -> Result<(), AllocError> 
     let audit =
         b"audit credit 3 held 0 flying 1 queued 0 limit 1\naudit tile 2 act 0\naudit tile 3 act 1\naudit flights 1\naudit quiet no\n";
     expect_run(&rt, rt.alloc(), SHARED, told.as_slice(), audit)
-}
-
-/// Where a grant line is in no form, has a number out of its range or names an undeclared holder, it is no script; what
-/// the kernel judges is no fault of the script.
-#[test]
-fn bad_lines_are_no_script(rt: HostRuntime) -> Result<(), AllocError> {
-    let alloc = rt.alloc();
-    for line in [
-        b"grant\n".as_slice(),
-        b"grant act 2 tile 2\n",
-        b"grant send 0 0 of 1 label 7\n",
-        b"grant recv 0 0 slots 33 size 16\n",
-        b"grant recv 0 16 slots 1 size 16\n",
-        b"grant send 0 0 of 0 label 7 credits 1\n",
-        b"grant send 0 0 of 4097 label 7 credits 1\n",
-        b"grant range 0 0 at 0 len 0 perm r\n",
-        b"grant range 0 0 at 0 len 1 perm wr\n",
-        b"grant range 2 0 at 0 len 1 perm r\n",
-        b"revoke\n",
-        b"revoke 0\n",
-        b"revoke 4097\n",
-        b"close 1\n",
-    ] {
-        let mut input = Vec::from_slice(alloc, PAIR)?;
-        input.extend_from_slice(b"begin\n")?;
-        input.extend_from_slice(line)?;
-        expect_written(&rt, alloc, &["run"], input, 2, b"bad script\n")?;
-    }
-    Ok(())
 }
