@@ -1,23 +1,9 @@
-#!/usr/bin/env python3
-"""Measures the built program on loads of two sizes, the second twice the first, and on scripts for the driver.
+"""Loads for the driver: what they read, and what there is to know of what they write.
 
-    python3 bench/loads.py [PROGRAM]
-
-PROGRAM is crates/m3x/out/m3x where it is left out (.ci/run builds it). A load is judged by its summary: eight messages
-are fetched in each round, all credits are held at the end, and it ends quiet. The script for the driver is the same
-load, written out, so its journal has as many entries as the summary says. A third script alternates two tiles between
-two activities each, so nearly every message finds its receiver away: it bounces, is held by the kernel, and lands there
-before the receiver comes back; it is judged by its counts and its audit. Printed are the best times of five runs and the
-entries a second; the ratio of the times is the second's to the first's: near 2 is linear.
+A load comes made, and as the same load written out, so that its journal can be counted. A third script alternates two
+tiles between two activities each, so nearly every message finds its receiver away: it bounces, is held by the kernel,
+and lands there before the receiver comes back.
 """
-import os
-import subprocess
-import sys
-import time
-
-TOP = os.path.dirname(os.path.dirname(os.path.abspath(__file__)))
-RUNS = 5
-ROUNDS = (250, 500)
 
 
 def payload(act, k):
@@ -57,77 +43,48 @@ def alternating(rounds):
     return "".join(line + "\n" for line in lines + ["begin"]).encode()
 
 
-def alternates(output, rounds):
-    """How many entries the journal has; None where a message is lost, or hardly any finds its receiver away."""
-    entries = output.partition(b"\nbegin\n")[2].partition(b"\nend\n")[0].decode().split("\n")
-    fetched = sum(": message " in e or ": reply " in e for e in entries)
-    bounced = sum(": bounced " in e for e in entries)
-    held = sum(": held " in e for e in entries)
-    credits = all(f"audit credit {g} held 1 flying 0 queued 0 limit 1\n".encode() in output for g in (5, 6))
-    right = fetched == 4 * rounds and bounced >= rounds and held >= rounds and credits
-    return len(entries) if right and output.endswith(b"audit quiet yes\n") else None
+def entries_in(output):
+    return output.partition(b"\nbegin\n")[2].partition(b"\nend\n")[0].decode().split("\n")
 
 
-def run(words, data, stdout):
-    return subprocess.run(words, input=data, stdout=stdout, stderr=subprocess.PIPE)
-
-
-def best(words, data):
-    """The least wall time of RUNS runs, in seconds."""
-    times = []
-    for _ in range(RUNS):
-        begun = time.perf_counter()
-        run(words, data, subprocess.DEVNULL)
-        times.append(time.perf_counter() - begun)
-    return min(times)
-
-
-def entries_of(program, rounds):
-    """How many entries the load's summary says that there are; None where the summary is wrong."""
-    ran = run([program, "load", str(rounds)], b"", subprocess.PIPE)
-    lines = ran.stdout.decode().splitlines()
+def summary(rounds):
+    """The judge of a load's summary: eight messages are fetched in each round, all credits are held, and it ends quiet."""
     credits = [f"audit credit {g} held 2 flying 0 queued 0 limit 2" for g in range(9, 13)]
     wanted = [f"load {rounds}", f"fetched {8 * rounds}", *credits, "audit flights 0", "audit quiet yes"]
-    if ran.returncode or ran.stderr or any(line not in lines for line in wanted):
-        return None
-    return int(lines[1].removeprefix("entries "))
+
+    def judge(output):
+        lines = output.decode().splitlines()
+        missing = [line for line in wanted if line not in lines]
+        return f"no line {missing[0]!r}" if missing else None, int(lines[1].removeprefix("entries "))
+
+    return judge
 
 
-def main(words):
-    program = os.path.abspath(words[0]) if words else f"{TOP}/crates/m3x/out/m3x"
-    if not os.access(program, os.X_OK):
-        print(f"{program} isn't built: .ci/run builds it", file=sys.stderr)
-        return 2
-    times = {"load": [], "auto": [], "alternating": []}
-    for rounds in ROUNDS:
-        entries = entries_of(program, rounds)
-        if entries is None:
-            print(f"load {rounds} has another summary", file=sys.stderr)
-            return 1
-        data = script(rounds)
-        ran = run([program, "auto"], data, subprocess.PIPE)
-        made = ran.stdout.partition(b"\nbegin\n")[2].partition(b"\nend\n")[0].count(b"\n") + 1
-        if ran.returncode or made != entries or not ran.stdout.endswith(b"audit quiet yes\n"):
-            print(f"auto makes {made} entries of the load {rounds}, which has {entries}", file=sys.stderr)
-            return 1
-        for name, call, given in (("load", [program, "load", str(rounds)], b""), ("auto", [program, "auto"], data)):
-            least = best(call, given)
-            times[name].append(least)
-            print(f"{name} {rounds:>4}  {entries:>6} entries  {least * 1000:>7.1f} ms  {entries / least:>9.0f} a second", flush=True)
-    for rounds in ROUNDS:
-        data = alternating(rounds)
-        ran = run([program, "auto"], data, subprocess.PIPE)
-        entries = None if ran.returncode else alternates(ran.stdout, rounds)
-        if entries is None:
-            print(f"the alternating script of {rounds} rounds has another journal", file=sys.stderr)
-            return 1
-        least = best([program, "auto"], data)
-        times["alternating"].append(least)
-        print(f"alternating {rounds:>4}  {entries:>6} entries  {least * 1000:>7.1f} ms  {entries / least:>9.0f} a second", flush=True)
-    for name, (first, second) in times.items():
-        print(f"{name}  ratio of the times: {second / first:.2f}")
-    return 0
+def journal(grants, credits, fetches, least):
+    """The judge of a driver's journal: so many fetches gave a message or a reply, at least `least` messages bounced and
+    were held, each of these grants holds all its credits, and it ends quiet."""
+
+    def judge(output):
+        entries = entries_in(output)
+        fetched = sum(": message " in e or ": reply " in e for e in entries)
+        bounced, held = (sum(word in e for e in entries) for word in (": bounced ", ": held "))
+        back = all(f"audit credit {g} held {credits} flying 0 queued 0 limit {credits}\n".encode() in output for g in grants)
+        right = fetched == fetches and min(bounced, held) >= least and back and output.endswith(b"audit quiet yes\n")
+        return None if right else f"{fetched} fetched, {bounced} bounced, {held} held, {output[-200:]!r}", len(entries)
+
+    return judge
 
 
-if __name__ == "__main__":
-    sys.exit(main(sys.argv[1:]))
+def make(rounds):
+    """No input, and the judge of the load's summary."""
+    return b"", summary(rounds)
+
+
+def make_script(rounds):
+    """The load written out for the driver, and the judge of its journal."""
+    return script(rounds), journal(range(9, 13), 2, 8 * rounds, 0)
+
+
+def make_alternating(rounds):
+    """A script in which nearly every message finds its receiver away, and the judge of its journal."""
+    return alternating(rounds), journal((5, 6), 1, 4 * rounds, rounds)
